@@ -1,0 +1,5 @@
+pub mod Task
+pub mod Paths
+pub mod Facts
+pub mod Limits
+pub mod Single
