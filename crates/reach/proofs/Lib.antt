@@ -1,0 +1,10 @@
+pub mod Sequences
+pub mod LayerFacts
+pub mod Steps
+pub mod Tables
+pub mod Rounds
+pub mod Thresholds
+pub mod Reaching
+pub mod Bound
+pub mod Leveling
+pub mod Built
