@@ -1,0 +1,4 @@
+pub mod Records
+pub mod Kinds
+pub mod Faults
+pub mod Lines
