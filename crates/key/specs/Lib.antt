@@ -1,0 +1,4 @@
+pub mod Tally
+pub mod Led
+pub mod Keys
+pub mod Replayed
