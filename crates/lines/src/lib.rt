@@ -1,0 +1,3 @@
+// The lines of a printed key, written into a buffer.
+pub mod line;
+pub mod write;
