@@ -1,0 +1,5 @@
+pub mod Tests
+pub mod Layers
+pub mod Rulings
+pub mod Laws
+pub mod Trials
