@@ -1,0 +1,2 @@
+// Printing a key.
+pub mod print;

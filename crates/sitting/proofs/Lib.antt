@@ -1,0 +1,4 @@
+pub mod Fronts
+pub mod Splitting
+pub mod Values
+pub mod Choosing
