@@ -1,3 +1,5 @@
 // A key with all that the rules confirm.
+#![tactic(auto)]
+
 pub mod filling;
 pub mod marked;

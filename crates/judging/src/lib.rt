@@ -1,5 +1,7 @@
 // What is judged of a planning task, over any source of it: whether the goal is in reach, whether a fact is a landmark, which
 // achiever lacks a condition, where a state leads, and how much is left from it.
+#![tactic(auto)]
+
 pub mod achievers;
 pub mod counts;
 pub mod goals;

@@ -1,4 +1,6 @@
 // What is true of the lines of a key: the contract of each function below is a theorem.
+#![tactic(auto)]
+
 ghost use Rattle.listing_laws.specs.Laws.{AllListed, OneLine};
 
 // No number has two lines.

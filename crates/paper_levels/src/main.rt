@@ -1,4 +1,6 @@
 // Reads a paper on standard input and prints the level of every fact.
+#![tactic(auto)]
+
 use account::account::Account;
 use account::building::account_of;
 use console::fault::ProgramFault;

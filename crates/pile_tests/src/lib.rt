@@ -1,4 +1,6 @@
 // Layers piled on a paper: the board of the rules page, barred and restarted, with levels worked out by hand.
+#![tactic(auto)]
+
 #[cfg(test)]
 mod tests {
     use paper::paper::Paper;

@@ -1,4 +1,6 @@
 // Reads a paper on standard input and prints its key.
+#![tactic(auto)]
+
 use console::fault::ProgramFault;
 use console::input::read_input;
 use console::output::print_fault;

@@ -1,2 +1,4 @@
 // Printing a key.
+#![tactic(auto)]
+
 pub mod print;

@@ -1,5 +1,7 @@
 // The readers on cases, one a line from standard input: `paper: BYTES` or `sheet: BYTES`. Prints a line for each: the refusal, or the counts
 // of the task; for `answers of paper: BYTES` and `answers of sheet: BYTES` all that the task answers. A line of `#` is a comment.
+#![tactic(auto)]
+
 mod answers;
 mod bytes;
 

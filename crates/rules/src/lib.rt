@@ -1,4 +1,6 @@
 // The rules by which calls are answered, and what is true of them: the contract of each function below is a theorem.
+#![tactic(auto)]
+
 ghost use Rattle.rules.specs.Answered.{CallsAnswered, OneAnswer, SessionsAnswered};
 ghost use Rattle.rules.specs.Marked.{AchieversCount, AchieversCovered, GoalReachedTogether, GoalsAreLandmarks, LandmarkTest, LandmarksAreVisited, LayersAreReach, NecessaryIsGreedy, NecessaryKeepsGreedy, OrderingsAreKept, RelaxedCoversPlans};
 ghost use Rattle.rules.specs.Sound.{KeysKept, NeverByZero, NeverMarkedDown};

@@ -1,4 +1,6 @@
 // Sheets at their limits: each expected verdict is worked out by hand from the rules of the format.
+#![tactic(auto)]
+
 #[cfg(test)]
 mod tests {
     use sheet::sheet::Sheet;

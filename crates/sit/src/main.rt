@@ -1,4 +1,6 @@
 // A sitting: `sit PAPER` reads a paper from a file and calls from standard input, one a line, and prints an answer a line.
+#![tactic(auto)]
+
 mod held;
 
 use console::fault::ProgramFault;

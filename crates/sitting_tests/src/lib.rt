@@ -1,4 +1,6 @@
 // Lines that are requests and lines that are none, and the text of answers.
+#![tactic(auto)]
+
 #[cfg(test)]
 mod tests {
     use rules::calls::{Answer, Call, Mark, Refusal, Remainder, Standing};

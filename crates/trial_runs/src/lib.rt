@@ -1,4 +1,6 @@
 // The worked trials, run: each function reads a paper, makes the calls of a trial, and ensures the answers that the rules give.
+#![tactic(auto)]
+
 ghost use Rattle.account.specs.Accounts.{AccountOf};
 ghost use Rattle.paper.specs.Paper.{paper_task};
 ghost use Rattle.records.specs.Records.{records};

@@ -1,4 +1,6 @@
 // The worked trials of the rules: the contract of each function below is a theorem about the task that a paper's own bytes mean.
+#![tactic(auto)]
+
 ghost use Rattle.trials.specs.Papers.{PapersAccepted};
 ghost use Rattle.trials.specs.Trials.{Trial1, Trial2, Trial3, PrintedKey, Trial4, Trial5, Trial6, Trial7, Trial8, Trial9, Trial10, Trial11};
 
