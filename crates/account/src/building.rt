@@ -17,8 +17,8 @@ fn list_levels<S: TaskSource>(
     source: &S,
     levels: &[AtLevel; 256],
 ) -> Result<Vec<FactLevel>, AllocError>
-    requires { LevelsBuilt (task source.now) levels.now }
-    ensures { IfOk result (λ v. Listed (task source.now) (facts (task source.now)) v.items) }
+    requires { LevelsBuilt (S.task source.now) levels.now }
+    ensures { IfOk result (λ v. Listed (S.task source.now) (facts (S.task source.now)) v.items) }
 {
     let mut list = Vec::new(heap);
     for number in 0..count_facts(source) {
@@ -37,7 +37,7 @@ fn list_levels<S: TaskSource>(
 
 // The account of a task.
 pub fn account_of<S: TaskSource>(heap: Global, source: &S) -> Result<Account, AllocError>
-    ensures { IfOk result (AccountOf (task source.now)) }
+    ensures { IfOk result (AccountOf (S.task source.now)) }
 {
     let mut levels = [AtLevel { level: 0 }; 256];
     let mut scratch = [AtLevel { level: 0 }; 256];

@@ -9,7 +9,7 @@ use task::task_source::TaskSource;
 
 // A new key over the source's task with all that the rules confirm; it fails only for want of memory.
 pub fn marked_key<S: TaskSource>(heap: Global, source: &S) -> Result<Key, AllocError>
-    ensures { IfOk result (MarkedKey (task source.now)) }
+    ensures { IfOk result (MarkedKey (S.task source.now)) }
 {
     let mut key = Key::open(heap, source)?;
     propose_all(&mut key);

@@ -14,7 +14,7 @@ use task::task_source::TaskSource;
 
 // Whether a table of the reach has all conditions of an action.
 fn has_conditions<S: TaskSource>(source: &S, reach: &[InReach; 256], action: usize) -> bool
-    ensures { Decides result (AllIn (task source.now) reach.now action) }
+    ensures { Decides result (AllIn (S.task source.now) reach.now action) }
 {
     let mut offset = 0;
     for variable in 0..source.variables() {
@@ -37,7 +37,7 @@ fn is_lacking<S: TaskSource>(
     later: Fact,
     action: usize,
 ) -> bool
-    ensures { Decides result (LacksIn (task source.now) reach.now earlier later action) }
+    ensures { Decides result (LacksIn (S.task source.now) reach.now earlier later action) }
 {
     if !source.is_present(action) {
         return false;
@@ -58,7 +58,7 @@ fn first_lacking<S: TaskSource>(
     earlier: Fact,
     later: Fact,
 ) -> Option<usize>
-    ensures { MatchOption result ((a : ℕ) → LacksIn (task source.now) reach.now earlier later a → ⊥) (Lowest (LacksIn (task source.now) reach.now earlier later)) }
+    ensures { MatchOption result ((a : ℕ) → LacksIn (S.task source.now) reach.now earlier later a → ⊥) (Lowest (LacksIn (S.task source.now) reach.now earlier later)) }
 {
     for action in 0..source.actions() {
         if is_lacking(source, reach, earlier, later, action) {
@@ -76,7 +76,7 @@ pub fn lacking_action<S: TaskSource>(
     earlier: Fact,
     later: Fact,
 ) -> Option<usize>
-    ensures { ReachBuilt (task source.now) reach.now → MatchOption result (Confirmed kind (task source.now) earlier later) (Lowest (Lacking kind (task source.now) earlier later)) }
+    ensures { ReachBuilt (S.task source.now) reach.now → MatchOption result (Confirmed kind (S.task source.now) earlier later) (Lowest (Lacking kind (S.task source.now) earlier later)) }
 {
     match kind {
         Kind::Greedy => {

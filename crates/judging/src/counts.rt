@@ -10,7 +10,7 @@ use task::task_source::TaskSource;
 
 // How many facts both tables have.
 pub fn count_visited<S: TaskSource>(source: &S, held: &[bool; 256], visited: &[bool; 256]) -> u16
-    ensures { Count (VisitedIn held.now visited.now) (facts (task source.now)) result }
+    ensures { Count (VisitedIn held.now visited.now) (facts (S.task source.now)) result }
 {
     let mut total = 0;
     for number in 0..count_facts(source) {
@@ -29,7 +29,7 @@ fn is_owed<S: TaskSource>(
     state: &[usize; 64],
     number: usize,
 ) -> bool
-    ensures { Decides result (OwedIn (task source.now) held.now visited.now (of_list state.now) number) }
+    ensures { Decides result (OwedIn (S.task source.now) held.now visited.now (of_list state.now) number) }
 {
     let Some(fact) = fact_at(source, number) else {
         return false;
@@ -52,7 +52,7 @@ pub fn count_owed<S: TaskSource>(
     visited: &[bool; 256],
     state: &[usize; 64],
 ) -> u16
-    ensures count { Count (OwedIn (task source.now) held.now visited.now (of_list state.now)) (facts (task source.now)) result }
+    ensures count { Count (OwedIn (S.task source.now) held.now visited.now (of_list state.now)) (facts (S.task source.now)) result }
     ensures bound { result ≤ 256 }
 {
     let mut total = 0;

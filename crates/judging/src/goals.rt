@@ -13,7 +13,7 @@ use task::task_source::TaskSource;
 
 // Says of each fact, by its number, whether it is in reach.
 pub fn fill_reach<S: TaskSource>(source: &S, reach: &mut [InReach; 256])
-    ensures { ReachBuilt (task source.now) reach.new }
+    ensures { ReachBuilt (S.task source.now) reach.new }
 {
     let mut scratch = [InReach { yes: false }; 256];
     let _layers = build_reach(source, reach, &mut scratch);
@@ -21,8 +21,8 @@ pub fn fill_reach<S: TaskSource>(source: &S, reach: &mut [InReach; 256])
 
 // The lowest number of a goal fact that a table of the reach lacks.
 fn first_missed<S: TaskSource>(source: &S, reach: &[InReach; 256]) -> Option<usize>
-    requires { ReachBuilt (task source.now) reach.now }
-    ensures { MatchOption result (GoalInReach (task source.now)) (Lowest (MissedGoal (task source.now))) }
+    requires { ReachBuilt (S.task source.now) reach.now }
+    ensures { MatchOption result (GoalInReach (S.task source.now)) (Lowest (MissedGoal (S.task source.now))) }
 {
     let mut offset = 0;
     for variable in 0..source.variables() {
@@ -39,8 +39,8 @@ fn first_missed<S: TaskSource>(source: &S, reach: &[InReach; 256]) -> Option<usi
 
 // Fills the table of the reach, and answers the lowest number of a goal fact out of it: `None` where the goal is in reach.
 pub fn missed_goal<S: TaskSource>(source: &S, reach: &mut [InReach; 256]) -> Option<usize>
-    ensures reach { ReachBuilt (task source.now) reach.new }
-    ensures missed { MatchOption result (GoalInReach (task source.now)) (Lowest (MissedGoal (task source.now))) }
+    ensures reach { ReachBuilt (S.task source.now) reach.new }
+    ensures missed { MatchOption result (GoalInReach (S.task source.now)) (Lowest (MissedGoal (S.task source.now))) }
 {
     fill_reach(source, reach);
     first_missed(source, reach)
@@ -48,7 +48,7 @@ pub fn missed_goal<S: TaskSource>(source: &S, reach: &mut [InReach; 256]) -> Opt
 
 // Whether no relaxed sequence reaches the goal without a fact.
 pub fn is_landmark<S: TaskSource>(source: &S, fact: Fact) -> bool
-    ensures { fact.variable < (task source.now).vars → Decides result (Landmark (task source.now) fact) }
+    ensures { fact.variable < (S.task source.now).vars → Decides result (Landmark (S.task source.now) fact) }
 {
     if source.start(fact.variable) == fact.value {
         return true;

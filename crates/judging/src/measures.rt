@@ -11,7 +11,7 @@ use task::task_source::TaskSource;
 
 // How many effects an action has.
 fn count_effects<S: TaskSource>(source: &S, action: usize) -> u16
-    ensures count { Effects (task source.now) action result }
+    ensures count { Effects (S.task source.now) action result }
     ensures bound { result ≤ 64 }
 {
     let mut total = 0;
@@ -25,7 +25,7 @@ fn count_effects<S: TaskSource>(source: &S, action: usize) -> u16
 
 // The most effects of a present action.
 pub fn widest<S: TaskSource>(source: &S) -> u16
-    ensures width { Width (task source.now) result }
+    ensures width { Width (S.task source.now) result }
     ensures bound { result ≤ 64 }
 {
     let mut width = 0;
@@ -39,8 +39,8 @@ pub fn widest<S: TaskSource>(source: &S) -> u16
 
 // The greatest level of a goal fact in a table of the levels, `None` where one has no level.
 fn highest<S: TaskSource>(source: &S, levels: &[AtLevel; 256]) -> Option<u16>
-    requires { LevelsBuilt (task source.now) levels.now }
-    ensures { MatchOption result (GoalInReach (task source.now) → ⊥) (GoalAt (task source.now)) }
+    requires { LevelsBuilt (S.task source.now) levels.now }
+    ensures { MatchOption result (GoalInReach (S.task source.now) → ⊥) (GoalAt (S.task source.now)) }
 {
     let mut highest = 0;
     let mut offset = 0;
@@ -58,7 +58,7 @@ fn highest<S: TaskSource>(source: &S, levels: &[AtLevel; 256]) -> Option<u16>
 
 // The greatest level of a goal fact, 0 without goals: `None` where a goal fact is out of reach.
 pub fn goal_level<S: TaskSource>(source: &S) -> Option<u16>
-    ensures { MatchOption result (GoalInReach (task source.now) → ⊥) (GoalAt (task source.now)) }
+    ensures { MatchOption result (GoalInReach (S.task source.now) → ⊥) (GoalAt (S.task source.now)) }
 {
     let mut levels = [AtLevel { level: 0 }; 256];
     let mut scratch = [AtLevel { level: 0 }; 256];

@@ -8,7 +8,7 @@ use task::task_source::TaskSource;
 
 // Puts the start there.
 pub fn put_start<S: TaskSource>(source: &S, state: &mut [usize; 64])
-    ensures { (v : ℕ) → slice_index state.new v ≡ (task source.now).start v }
+    ensures { (v : ℕ) → slice_index state.new v ≡ (S.task source.now).start v }
 {
     for variable in 0..64 {
         state[variable] = source.start(variable);
@@ -17,7 +17,7 @@ pub fn put_start<S: TaskSource>(source: &S, state: &mut [usize; 64])
 
 // Puts the effects of an action there.
 pub fn advance<S: TaskSource>(source: &S, action: usize, state: &mut [usize; 64])
-    ensures { (v : ℕ) → slice_index state.new v ≡ after (task source.now) (of_list state.old) action v }
+    ensures { (v : ℕ) → slice_index state.new v ≡ after (S.task source.now) (of_list state.old) action v }
 {
     for variable in 0..source.variables() {
         if let Some(value) = source.effect(action, variable) {
@@ -28,7 +28,7 @@ pub fn advance<S: TaskSource>(source: &S, action: usize, state: &mut [usize; 64]
 
 // Marks the facts that hold there.
 pub fn mark_facts<S: TaskSource>(source: &S, state: &[usize; 64], marks: &mut [bool; 256])
-    ensures { Marked (task source.now) marks.old (of_list state.now) (task source.now).vars marks.new }
+    ensures { Marked (S.task source.now) marks.old (of_list state.now) (S.task source.now).vars marks.new }
 {
     let mut offset = 0;
     for variable in 0..source.variables() {
@@ -43,7 +43,7 @@ pub fn mark_facts<S: TaskSource>(source: &S, state: &[usize; 64], marks: &mut [b
 
 // The lowest number of a condition of an action that does not hold there.
 pub fn first_unmet<S: TaskSource>(source: &S, state: &[usize; 64], action: usize) -> Option<usize>
-    ensures { MatchOption result (Met (task source.now) (of_list state.now) action) (Lowest (Unmet (task source.now) (of_list state.now) action)) }
+    ensures { MatchOption result (Met (S.task source.now) (of_list state.now) action) (Lowest (Unmet (S.task source.now) (of_list state.now) action)) }
 {
     let mut offset = 0;
     for variable in 0..source.variables() {

@@ -31,7 +31,7 @@ pub fn remainder<S: TaskSource>(
     visited: &[bool; 256],
     state: &[usize; 64],
 ) -> Remainder
-    ensures { LeftIn (task source.now) held.now visited.now (of_list state.now) result }
+    ensures { LeftIn (S.task source.now) held.now visited.now (of_list state.now) result }
 {
     let here = Restarted::new(source, state);
     let Some(level) = goal_level(&here) else {

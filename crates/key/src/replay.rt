@@ -20,7 +20,7 @@ pub fn replay<S: TaskSource>(
     source: &S,
     calls: &[Call],
 ) -> Result<Transcript, AllocError>
-    ensures { IfOk result (λ p. Replayed (task source.now) calls.now p.answers.items p.key) }
+    ensures { IfOk result (λ p. Replayed (S.task source.now) calls.now p.answers.items p.key) }
 {
     let mut key = Key::open(heap, source)?;
     let mut answers = Vec::new(heap);

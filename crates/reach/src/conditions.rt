@@ -8,9 +8,9 @@ use task::task_source::TaskSource;
 
 // The joined values of an action's conditions on the variables below `end`.
 fn join_below<S: TaskSource, M: Measure>(source: &S, values: &[M], action: usize, end: usize) -> M
-    requires long { length values.now ≡ facts (task source.now) }
-    requires few { end ≤ (task source.now).vars }
-    ensures { result ≡ together ops (task source.now) (value_of ops (task source.now) values.now) action end }
+    requires long { length values.now ≡ facts (S.task source.now) }
+    requires few { end ≤ (S.task source.now).vars }
+    ensures { result ≡ together M.ops (S.task source.now) (value_of M.ops (S.task source.now) values.now) action end }
 {
     let mut joined = M::unconditional();
     let mut offset = 0;
@@ -29,8 +29,8 @@ pub(crate) fn join_conditions<S: TaskSource, M: Measure>(
     values: &[M],
     action: usize,
 ) -> M
-    requires { length values.now ≡ facts (task source.now) }
-    ensures { result ≡ together ops (task source.now) (value_of ops (task source.now) values.now) action (task source.now).vars }
+    requires { length values.now ≡ facts (S.task source.now) }
+    ensures { result ≡ together M.ops (S.task source.now) (value_of M.ops (S.task source.now) values.now) action (S.task source.now).vars }
 {
     join_below(source, values, action, source.variables())
 }

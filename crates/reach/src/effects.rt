@@ -9,7 +9,7 @@ use task::task_source::TaskSource;
 // Puts the better of the two values in the place of the value at an index.
 fn improve<M: Measure>(values: &mut [M], index: usize, value: M)
     requires { index < length values.old }
-    ensures { values.new ≡ slice_set values.old index (ops.better (slice_index_or values.old index ops.none) value) }
+    ensures { values.new ≡ slice_set values.old index (M.ops.better (slice_index_or values.old index M.ops.none) value) }
 {
     let old = values[index];
     values[index] = old.better_of(value);
@@ -17,8 +17,8 @@ fn improve<M: Measure>(values: &mut [M], index: usize, value: M)
 
 // Offers a value to the effects of an action.
 pub(crate) fn offer<S: TaskSource, M: Measure>(source: &S, action: usize, value: M, next: &mut [M])
-    requires { length next.old ≡ facts (task source.now) }
-    ensures { next.new ≡ offered ops (task source.now) action value next.old (task source.now).vars }
+    requires { length next.old ≡ facts (S.task source.now) }
+    ensures { next.new ≡ offered M.ops (S.task source.now) action value next.old (S.task source.now).vars }
 {
     let mut offset = 0;
     for variable in 0..source.variables() {

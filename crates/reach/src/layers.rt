@@ -14,8 +14,8 @@ use task::task_source::TaskSource;
 
 // Offers what each present action makes of `values` to its effects.
 fn act<S: TaskSource, M: Measure>(source: &S, values: &[M], next: &mut [M])
-    requires { (length values.now ≡ facts (task source.now)) × (next.old ≡ values.now) }
-    ensures { next.new ≡ acted ops (task source.now) values.now (task source.now).actions }
+    requires { (length values.now ≡ facts (S.task source.now)) × (next.old ≡ values.now) }
+    ensures { next.new ≡ acted M.ops (S.task source.now) values.now (S.task source.now).actions }
 {
     for action in 0..source.actions() {
         if source.is_present(action) {
@@ -27,8 +27,8 @@ fn act<S: TaskSource, M: Measure>(source: &S, values: &[M], next: &mut [M])
 
 // Computes the layer after `values`.
 fn next_layer<S: TaskSource, M: Measure>(source: &S, values: &[M], next: &mut [M])
-    requires { (length values.now ≡ facts (task source.now)) × (length next.old ≡ facts (task source.now)) }
-    ensures { next.new ≡ after ops (task source.now) values.now }
+    requires { (length values.now ≡ facts (S.task source.now)) × (length next.old ≡ facts (S.task source.now)) }
+    ensures { next.new ≡ after M.ops (S.task source.now) values.now }
 {
     next.copy_from_slice(values);
     act(source, values, next);
@@ -49,11 +49,11 @@ fn same_layer<M: Measure>(values: &[M], others: &[M]) -> bool
 
 // Fills both tables with the layer that equals its next, and says how many layers there are before it.
 fn run_layers<S: TaskSource, M: Measure>(source: &S, values: &mut [M], scratch: &mut [M]) -> usize
-    requires values { length values.old ≡ facts (task source.now) }
-    requires scratch { length scratch.old ≡ facts (task source.now) }
-    ensures values { values.new ≡ layer ops (task source.now) result }
-    ensures scratch { scratch.new ≡ layer ops (task source.now) result }
-    ensures closed { Closed ops (task source.now) result }
+    requires values { length values.old ≡ facts (S.task source.now) }
+    requires scratch { length scratch.old ≡ facts (S.task source.now) }
+    ensures values { values.new ≡ layer M.ops (S.task source.now) result }
+    ensures scratch { scratch.new ≡ layer M.ops (S.task source.now) result }
+    ensures closed { Closed M.ops (S.task source.now) result }
 {
     first_layer(source, values);
     let mut layers = 0;
@@ -74,7 +74,7 @@ pub fn build_layers<S: TaskSource, M: Measure>(
     values: &mut [M],
     scratch: &mut [M],
 ) -> Option<usize>
-    ensures { MatchOption result (TooShort (task source.now) values.old scratch.old values.new scratch.new) (λ n. LayersBuilt ops (task source.now) n values.old scratch.old values.new scratch.new) }
+    ensures { MatchOption result (TooShort (S.task source.now) values.old scratch.old values.new scratch.new) (λ n. LayersBuilt M.ops (S.task source.now) n values.old scratch.old values.new scratch.new) }
 {
     let count = count_facts(source);
     if values.len() < count {

@@ -13,7 +13,7 @@ pub fn build_reach<S: TaskSource>(
     reach: &mut [InReach],
     scratch: &mut [InReach],
 ) -> Option<usize>
-    ensures { MatchOption result (TooShort (task source.now) reach.old scratch.old reach.new scratch.new) (λ n. FactsBuilt (task source.now) ReachBuilt n reach.old scratch.old reach.new scratch.new) }
+    ensures { MatchOption result (TooShort (S.task source.now) reach.old scratch.old reach.new scratch.new) (λ n. FactsBuilt (S.task source.now) ReachBuilt n reach.old scratch.old reach.new scratch.new) }
 {
     build_layers(source, reach, scratch)
 }
@@ -25,7 +25,7 @@ pub fn build_levels<S: TaskSource>(
     levels: &mut [AtLevel],
     scratch: &mut [AtLevel],
 ) -> Option<usize>
-    ensures { MatchOption result (TooShort (task source.now) levels.old scratch.old levels.new scratch.new) (λ n. FactsBuilt (task source.now) LevelsBuilt n levels.old scratch.old levels.new scratch.new) }
+    ensures { MatchOption result (TooShort (S.task source.now) levels.old scratch.old levels.new scratch.new) (λ n. FactsBuilt (S.task source.now) LevelsBuilt n levels.old scratch.old levels.new scratch.new) }
 {
     build_layers(source, levels, scratch)
 }

@@ -9,7 +9,7 @@ use task::task_source::TaskSource;
 
 // Sets every value to that of a fact out of reach.
 fn clear<M: Measure>(values: &mut [M])
-    ensures { (k : ℕ) → k < length values.new → slice_index_or values.new k ops.none ≡ ops.none }
+    ensures { (k : ℕ) → k < length values.new → slice_index_or values.new k M.ops.none ≡ M.ops.none }
 {
     for value in values.iter_mut() {
         *value = M::unreached();
@@ -26,8 +26,8 @@ fn put<M: Measure>(values: &mut [M], index: usize, value: M)
 
 // Gives the start facts their value.
 fn mark_start<S: TaskSource, M: Measure>(source: &S, values: &mut [M])
-    requires { length values.old ≡ facts (task source.now) }
-    ensures { values.new ≡ started ops (task source.now) values.old (task source.now).vars }
+    requires { length values.old ≡ facts (S.task source.now) }
+    ensures { values.new ≡ started M.ops (S.task source.now) values.old (S.task source.now).vars }
 {
     let mut offset = 0;
     for variable in 0..source.variables() {
@@ -38,8 +38,8 @@ fn mark_start<S: TaskSource, M: Measure>(source: &S, values: &mut [M])
 
 // Computes the layer of the start facts.
 pub(crate) fn first_layer<S: TaskSource, M: Measure>(source: &S, values: &mut [M])
-    requires { length values.old ≡ facts (task source.now) }
-    ensures { values.new ≡ layer ops (task source.now) 0 }
+    requires { length values.old ≡ facts (S.task source.now) }
+    ensures { values.new ≡ layer M.ops (S.task source.now) 0 }
 {
     clear(values);
     mark_start(source, values);

@@ -11,7 +11,7 @@ use task::task_source::TaskSource;
 
 // What the source answers of one variable.
 fn copy_variable<S: TaskSource>(source: &S, variable: usize) -> Variable
-    ensures { result ≡ variable_of (task source.now) variable }
+    ensures { result ≡ variable_of (S.task source.now) variable }
 {
     Variable {
         size: source.size(variable) as u8,
@@ -22,7 +22,7 @@ fn copy_variable<S: TaskSource>(source: &S, variable: usize) -> Variable
 
 // What the source answers of every variable.
 fn copy_variables<S: TaskSource>(heap: Global, source: &S) -> Result<Vec<Variable>, AllocError>
-    ensures { IfOk result (λ vs. Filled (task source.now).vars (variable_of (task source.now)) vs.items) }
+    ensures { IfOk result (λ vs. Filled (S.task source.now).vars (variable_of (S.task source.now)) vs.items) }
 {
     let mut variables = Vec::new(heap);
     for variable in 0..source.variables() {
@@ -33,7 +33,7 @@ fn copy_variables<S: TaskSource>(heap: Global, source: &S) -> Result<Vec<Variabl
 
 // Which numbers are actions.
 fn copy_present<S: TaskSource>(heap: Global, source: &S) -> Result<Vec<bool>, AllocError>
-    ensures { IfOk result (λ ps. Filled (task source.now).actions (task source.now).present ps.items) }
+    ensures { IfOk result (λ ps. Filled (S.task source.now).actions (S.task source.now).present ps.items) }
 {
     let mut present = Vec::new(heap);
     for action in 0..source.actions() {
@@ -44,7 +44,7 @@ fn copy_present<S: TaskSource>(heap: Global, source: &S) -> Result<Vec<bool>, Al
 
 // What the actions need of every variable.
 fn copy_needs<S: TaskSource>(heap: Global, source: &S) -> Result<Vec<Option<u8>>, AllocError>
-    ensures { IfOk result (λ ns. Filled ((task source.now).actions * 64) (λ k. (task source.now).need (k / 64) (k % 64)) ns.items) }
+    ensures { IfOk result (λ ns. Filled ((S.task source.now).actions * 64) (λ k. (S.task source.now).need (k / 64) (k % 64)) ns.items) }
 {
     let mut needs = Vec::new(heap);
     for place in 0..source.actions() * WIDTH {
@@ -55,7 +55,7 @@ fn copy_needs<S: TaskSource>(heap: Global, source: &S) -> Result<Vec<Option<u8>>
 
 // What the actions give to every variable.
 fn copy_effects<S: TaskSource>(heap: Global, source: &S) -> Result<Vec<Option<u8>>, AllocError>
-    ensures { IfOk result (λ es. Filled ((task source.now).actions * 64) (λ k. (task source.now).give (k / 64) (k % 64)) es.items) }
+    ensures { IfOk result (λ es. Filled ((S.task source.now).actions * 64) (λ k. (S.task source.now).give (k / 64) (k % 64)) es.items) }
 {
     let mut effects = Vec::new(heap);
     for place in 0..source.actions() * WIDTH {
@@ -67,7 +67,7 @@ fn copy_effects<S: TaskSource>(heap: Global, source: &S) -> Result<Vec<Option<u8
 impl TaskTable {
     // A table that holds the source's task; it fails only for want of memory.
     pub fn copy<S: TaskSource>(heap: Global, source: &S) -> Result<TaskTable, AllocError>
-        ensures { IfOk result (λ table. held table ≡ task source.now) }
+        ensures { IfOk result (λ table. held table ≡ S.task source.now) }
     {
         let variables = copy_variables(heap, source)?;
         let present = copy_present(heap, source)?;

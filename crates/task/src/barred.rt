@@ -30,7 +30,7 @@ impl<S: TaskSource> Barred<S> {
     // The task of `inner` without the actions that achieve the fact with this number; a number that no fact has bars nothing.
     pub fn by_number(inner: S, number: usize) -> Barred<S>
         ensures inner { result.inner ≡ inner }
-        ensures fact { Exactly (Numbered (task inner) number) result.fact }
+        ensures fact { Exactly (Numbered (S.task inner) number) result.fact }
     {
         let fact = fact_at(&inner, number);
         Barred { inner, fact }

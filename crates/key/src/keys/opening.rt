@@ -11,7 +11,7 @@ use task::task_source::TaskSource;
 impl Key {
     // An empty key with a copy of the source's task, and a sitting at its start; it fails only for want of memory.
     pub fn open<S: TaskSource>(heap: Global, source: &S) -> Result<Key, AllocError>
-        ensures { IfOk result (Opened (task source.now)) }
+        ensures { IfOk result (Opened (S.task source.now)) }
     {
         let table = TaskTable::copy(heap, source)?;
         let marker = Marker::open(heap, table)?;

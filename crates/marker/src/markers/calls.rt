@@ -42,7 +42,7 @@ impl<S: TaskSource> Marker<S> {
     pub fn answer(&mut self, call: Call) -> Answer
         ensures source { self.new.source ≡ self.old.source }
         ensures tally { self.new.tally ≡ tallied self.old.tally result }
-        ensures turn { Answered (task self.old.source) self.old call result self.new }
+        ensures turn { Answered (S.task self.old.source) self.old call result self.new }
     {
         match call {
             Call::Propose(number) => mark_answer(self.propose(number)),

@@ -17,7 +17,7 @@ impl<S: TaskSource> Marker<S> {
 
     // The lowest goal fact out of reach, if any.
     pub fn missed(&self) -> Option<usize>
-        ensures { (m : Machine) → Shows (task self.now.source) self.now m → MatchOption result (GoalInReach (task self.now.source)) (Lowest (MissedGoal (task self.now.source))) }
+        ensures { (m : Machine) → Shows (S.task self.now.source) self.now m → MatchOption result (GoalInReach (S.task self.now.source)) (Lowest (MissedGoal (S.task self.now.source))) }
     {
         self.missed
     }

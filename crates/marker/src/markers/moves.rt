@@ -14,7 +14,7 @@ impl<S: TaskSource> Marker<S> {
     pub fn begin(&mut self) -> Result<(), Refusal>
         ensures source { self.new.source ≡ self.old.source }
         ensures tally { self.new.tally ≡ tallied self.old.tally (acted result) }
-        ensures turn { Answered (task self.old.source) self.old Begin (acted result) self.new }
+        ensures turn { Answered (S.task self.old.source) self.old Begin (acted result) self.new }
     {
         if let Some(goal) = self.missed {
             return Err(Refusal::GoalOutOfReach(goal));
@@ -31,7 +31,7 @@ impl<S: TaskSource> Marker<S> {
     pub fn step(&mut self, action: usize) -> Result<(), Refusal>
         ensures source { self.new.source ≡ self.old.source }
         ensures tally { self.new.tally ≡ tallied self.old.tally (acted result) }
-        ensures turn { Answered (task self.old.source) self.old (Step action) (acted result) self.new }
+        ensures turn { Answered (S.task self.old.source) self.old (Step action) (acted result) self.new }
     {
         if let Some(goal) = self.missed {
             return Err(Refusal::GoalOutOfReach(goal));

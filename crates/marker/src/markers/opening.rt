@@ -14,7 +14,7 @@ impl<S: TaskSource + Drop> Marker<S> {
     // An empty key, and a sitting at the start of a task.
     pub fn open(heap: Global, source: S) -> Result<Marker<S>, AllocError>
         ensures source { IfOk result (λ k. k.source ≡ source) }
-        ensures opened { IfOk result (λ k. Shows (task source) k opened) }
+        ensures opened { IfOk result (λ k. Shows (S.task source) k opened) }
         ensures tally { IfOk result (λ k. k.tally ≡ 0) }
     {
         let orders = vec![in heap; false; 131072]?;

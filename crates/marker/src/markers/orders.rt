@@ -16,7 +16,7 @@ impl<S: TaskSource> Marker<S> {
     pub fn order(&mut self, kind: usize, earlier: usize, later: usize) -> Result<Mark, Refusal>
         ensures source { self.new.source ≡ self.old.source }
         ensures tally { self.new.tally ≡ tallied self.old.tally (marked result) }
-        ensures turn { Answered (task self.old.source) self.old (Order kind earlier later) (marked result) self.new }
+        ensures turn { Answered (S.task self.old.source) self.old (Order kind earlier later) (marked result) self.new }
     {
         if let Some(goal) = self.missed {
             return Err(Refusal::GoalOutOfReach(goal));

@@ -14,7 +14,7 @@ impl<S: TaskSource> Marker<S> {
     // Says where the sitting stands.
     pub fn report(&self) -> Result<Standing, Refusal>
         ensures tally { self.now.tally ≡ tallied self.now.tally (reported result) }
-        ensures turn { Answered (task self.now.source) self.now Report (reported result) self.now }
+        ensures turn { Answered (S.task self.now.source) self.now Report (reported result) self.now }
     {
         if let Some(goal) = self.missed {
             return Err(Refusal::GoalOutOfReach(goal));

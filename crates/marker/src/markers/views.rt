@@ -11,14 +11,14 @@ use task::task_source::TaskSource;
 impl<S: TaskSource> Marker<S> {
     // Whether the key has the fact with a number.
     pub fn holds(&self, number: usize) -> bool
-        ensures { (m : Machine) → Shows (task self.now.source) self.now m → result ≡ m.held number }
+        ensures { (m : Machine) → Shows (S.task self.now.source) self.now m → result ≡ m.held number }
     {
         is_marked(&self.held, number)
     }
 
     // Whether the key has an ordering of two facts by their numbers.
     pub fn is_ordered(&self, kind: Kind, earlier: usize, later: usize) -> bool
-        ensures { (m : Machine) → Shows (task self.now.source) self.now m → result ≡ m.ordered kind earlier later }
+        ensures { (m : Machine) → Shows (S.task self.now.source) self.now m → result ≡ m.ordered kind earlier later }
     {
         if earlier >= 256 {
             return false;
@@ -31,7 +31,7 @@ impl<S: TaskSource> Marker<S> {
 
     // The value of a variable in the state that the sitting has reached, 0 past the last variable.
     pub fn value(&self, variable: usize) -> usize
-        ensures { (m : Machine) → Shows (task self.now.source) self.now m → result ≡ position (task self.now.source) m variable }
+        ensures { (m : Machine) → Shows (S.task self.now.source) self.now m → result ≡ position (S.task self.now.source) m variable }
     {
         value_or_zero(&self.state, variable)
     }

@@ -3,8 +3,8 @@ use Rattle.task.proofs.Next.{offset_min}
 use Rattle.task.proofs.Numbers.{offset_below, offset_more}
 use Rattle.task.proofs.task_source.TaskSource.offset.Goals as goal
 
-pub overflow-add-offset : goal.overflow-add-offset
-overflow-add-offset g c =
+pub overflow_add-offset : goal.overflow_add-offset
+overflow_add-offset g c =
     let t = g.Self.TaskSource.task c.args.self.now in
     let lawful = g.Self.TaskSource.lawful c.args.self.now in
     omega (
