@@ -6,7 +6,7 @@ use Rattle.task.proofs.Numbers.{need_number, size_number, few_numbers}
 use Rattle.reach.proofs.Steps.{conditions_some, conditions_none}
 use Rattle.reach.proofs.conditions.join_below.Given as given
 use Rattle.reach.proofs.conditions.join_below.Goals as goal
-use Rattle.reach.proofs.conditions.join_below.Goals.{in-Some, in-default}
+use Rattle.reach.proofs.conditions.join_below.Goals.{in-Some, in_default}
 
 number-below : (g : given.Over) (c : goal.In-Some g) → (c.loop-variable.offset + c.in-Some.value < length c.args.values.now) × (length c.args.values.now ≤ 256)
 number-below g c =
@@ -16,17 +16,17 @@ number-below g c =
       few_numbers lawful _ (g.S.TaskSource.task c.args.source.now).vars _ _ below refl c.loop-variable.invariant.0 c.requires.long,
     )
 
-pub overflow-add-offset : goal.overflow-add-offset
-overflow-add-offset g c = omega (arith, number-below g c)
+pub overflow_add-offset : goal.overflow_add-offset
+overflow_add-offset g c = omega (arith, number-below g c)
 
-pub offset-bounds-values-offset : goal.offset-bounds-values-offset
-offset-bounds-values-offset g c = omega (arith, number-below g c)
+pub offset_bounds-values-offset : goal.offset_bounds-values-offset
+offset_bounds-values-offset g c = omega (arith, number-below g c)
 
 pub bounds-values-offset : goal.bounds-values-offset
 bounds-values-offset g c = (number-below g c).0
 
-pub overflow-add-offset-in-loop-variable : goal.overflow-add-offset-in-loop-variable
-overflow-add-offset-in-loop-variable g c =
+pub overflow_add-offset-in-loop-variable : goal.overflow_add-offset-in-loop-variable
+overflow_add-offset-in-loop-variable g c =
     let lawful = g.S.TaskSource.lawful c.args.source.now in
     let below : c.loop-variable.variable < (g.S.TaskSource.task c.args.source.now).vars = omega (arith, c.loop-variable-test.true, c.requires.few) in
     omega (
@@ -57,8 +57,8 @@ loop-variable-preserved g c =
             let old = c.loop-variable.invariant.1 in
             let new = w.joined-joined.ensures in
             cc w.joined-is)
-        | in-default w ↦
-            (let step = conditions_none o t f a v (sym w.in-default.ensures) in
+        | in_default w ↦
+            (let step = conditions_none o t f a v (sym w.in_default.ensures) in
             let old = c.loop-variable.invariant.1 in
             cc w.joined-is)
       ],

@@ -4,10 +4,10 @@ use Rattle.task.proofs.Numbers.{give_number, size_number, few_numbers}
 use Rattle.reach.proofs.Steps.{offered_some, offered_none}
 use Rattle.reach.proofs.effects.offer.Given as given
 use Rattle.reach.proofs.effects.offer.Goals as goal
-use Rattle.reach.proofs.effects.offer.Goals.{in-Some, in-default}
+use Rattle.reach.proofs.effects.offer.Goals.{in-Some, in_default}
 
-pub overflow-add-offset : goal.overflow-add-offset
-overflow-add-offset g c =
+pub overflow_add-offset : goal.overflow_add-offset
+overflow_add-offset g c =
     let lawful = g.S.TaskSource.lawful c.args.source.now in
     omega (
       arith,
@@ -21,8 +21,8 @@ improve-requires g c =
     let long = c.loop-variable.auto.next ∙ c.requires in
     give_number lawful _ _ _ _ c.loop-variable-test.true c.variables-variable-end.ensures c.loop-variable.invariant.0 long c.args.action _ (sym c.in-Some.ensures)
 
-pub overflow-add-offset-in-loop-variable : goal.overflow-add-offset-in-loop-variable
-overflow-add-offset-in-loop-variable g c =
+pub overflow_add-offset-in-loop-variable : goal.overflow_add-offset-in-loop-variable
+overflow_add-offset-in-loop-variable g c =
     let lawful = g.S.TaskSource.lawful c.args.source.now in
     omega (
       arith,
@@ -45,8 +45,8 @@ loop-variable-preserved g c =
             (let step = offered_some o t a c.args.value c.args.next.now v w.in-Some.effect (sym w.in-Some.ensures) in
             let new = w.improve.ensures in
             cc w.next-is)
-        | in-default w ↦
-            (let step = offered_none o t a c.args.value c.args.next.now v (sym w.in-default.ensures) in
+        | in_default w ↦
+            (let step = offered_none o t a c.args.value c.args.next.now v (sym w.in_default.ensures) in
             cc w.next-is)
       ],
     )

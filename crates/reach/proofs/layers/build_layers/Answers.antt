@@ -7,12 +7,12 @@ pub returns : goal.returns
 returns g c =
     let lawful = g.S.TaskSource.lawful c.args.source.now in
     let o = g.M.Measure.ops in
-    let n = c.run-layers.result in
-    let counted = c.count-facts-count.ensures.value in
-    let v = c.run-layers.ensures.values in
-    let s = c.run-layers.ensures.scratch in
+    let n = c.run_layers.result in
+    let counted = c.count_facts-count.ensures.value in
+    let v = c.run_layers.ensures.values in
+    let s = c.run_layers.ensures.scratch in
     record {
-      filled = front_filled c.args.values.now c.run-layers.new.values _ c.count-facts-count.result counted (omega arith) (ap length v ∙ length_layer o lawful n ∙ (omega arith)) v;
-      scratch_filled = front_filled c.args.scratch.now c.run-layers.new.scratch _ c.count-facts-count.result counted (omega arith) (ap length s ∙ length_layer o lawful n ∙ (omega arith)) s;
-      closed = c.run-layers.ensures.closed;
+      filled = front_filled c.args.values.now c.run_layers.new.values _ c.count_facts-count.result counted (omega arith) (ap length v ∙ length_layer o lawful n ∙ (omega arith)) v;
+      scratch_filled = front_filled c.args.scratch.now c.run_layers.new.scratch _ c.count_facts-count.result counted (omega arith) (ap length s ∙ length_layer o lawful n ∙ (omega arith)) s;
+      closed = c.run_layers.ensures.closed;
     }

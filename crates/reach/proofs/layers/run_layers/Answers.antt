@@ -3,16 +3,16 @@ use Rattle.std.proofs.lemmas.Bool.{both_ways}
 use Rattle.reach.proofs.Rounds.{first_ranks, round_layer, round_falls, round_least, round_closed}
 use Rattle.reach.proofs.layers.run_layers.Goals as goal
 
-pub overflow-add-layers : goal.overflow-add-layers
-overflow-add-layers g c =
+pub overflow_add-layers : goal.overflow_add-layers
+overflow_add-layers g c =
     let lawful = g.S.TaskSource.lawful c.args.source.now in
     omega (arith, c.loop-layers.invariant.1, first_ranks g.M.Measure.ops g.M.Measure.laws lawful)
 
 pub loop-layers-init : goal.loop-layers-init
 loop-layers-init g c =
     let o = g.M.Measure.ops in (
-      c.first-layer.ensures,
-      omega (arith, ap (sum_by o.rank) c.first-layer.ensures),
+      c.first_layer.ensures,
+      omega (arith, ap (sum_by o.rank) c.first_layer.ensures),
       λ m h. absurd (omega arith),
     )
 
@@ -23,9 +23,9 @@ loop-layers-preserved g c =
     let lawful = g.S.TaskSource.lawful c.args.source.now in
     let n = c.loop-layers.layers in
     let was = c.loop-layers.invariant.0 in
-    let is = c.next-layer.ensures in
-    let copied = c.copy-from-slice.ensures.after in
-    let differs : c.loop-layers.values ≡ c.next-layer.new.next → ⊥ = λ e. both_ways c.same-layer.result c.if-same-layer.false (c.same-layer.ensures.1 e) in (
+    let is = c.next_layer.ensures in
+    let copied = c.copy_from_slice.ensures.after in
+    let differs : c.loop-layers.values ≡ c.next_layer.new.next → ⊥ = λ e. both_ways c.same_layer.result c.if-same_layer.false (c.same_layer.ensures.1 e) in (
       copied ∙ round_layer o laws lawful n _ _ was is,
       omega (arith, round_falls o laws lawful n _ _ was is differs, ap (sum_by o.rank) copied, c.loop-layers.invariant.1),
       round_least o laws lawful n _ _ was is differs c.loop-layers.invariant.2,
@@ -36,17 +36,17 @@ loop-layers-smaller g c =
     let o = g.M.Measure.ops in
     let laws = g.M.Measure.laws in
     let lawful = g.S.TaskSource.lawful c.args.source.now in
-    let differs : c.loop-layers.values ≡ c.next-layer.new.next → ⊥ = λ e. both_ways c.same-layer.result c.if-same-layer.false (c.same-layer.ensures.1 e) in
-    omega (arith, round_falls o laws lawful c.loop-layers.layers _ _ c.loop-layers.invariant.0 c.next-layer.ensures differs, ap (sum_by o.rank) c.copy-from-slice.ensures.after)
+    let differs : c.loop-layers.values ≡ c.next_layer.new.next → ⊥ = λ e. both_ways c.same_layer.result c.if-same_layer.false (c.same_layer.ensures.1 e) in
+    omega (arith, round_falls o laws lawful c.loop-layers.layers _ _ c.loop-layers.invariant.0 c.next_layer.ensures differs, ap (sum_by o.rank) c.copy_from_slice.ensures.after)
 
-pub returns-then-same-layer : goal.returns-then-same-layer
-returns-then-same-layer g c =
+pub returns-then-same_layer : goal.returns-then-same_layer
+returns-then-same_layer g c =
     let o = g.M.Measure.ops in
     let laws = g.M.Measure.laws in
     let lawful = g.S.TaskSource.lawful c.args.source.now in
-    let same = c.same-layer.ensures.0 c.if-same-layer.true in
+    let same = c.same_layer.ensures.0 c.if-same_layer.true in
     record {
       values = c.loop-layers.invariant.0;
       scratch = sym same ∙ c.loop-layers.invariant.0;
-      closed = round_closed o laws lawful c.loop-layers.layers _ _ c.loop-layers.invariant.0 c.next-layer.ensures same c.loop-layers.invariant.2;
+      closed = round_closed o laws lawful c.loop-layers.layers _ _ c.loop-layers.invariant.0 c.next_layer.ensures same c.loop-layers.invariant.2;
     }

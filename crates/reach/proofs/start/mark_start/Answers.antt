@@ -4,8 +4,8 @@ use Rattle.task.proofs.Numbers.{start_number, size_number, few_numbers}
 use Rattle.reach.proofs.Steps.{started_more}
 use Rattle.reach.proofs.start.mark_start.Goals as goal
 
-pub overflow-add-offset : goal.overflow-add-offset
-overflow-add-offset g c =
+pub overflow_add-offset : goal.overflow_add-offset
+overflow_add-offset g c =
     let lawful = g.S.TaskSource.lawful c.args.source.now in
     omega (
       arith,
@@ -23,8 +23,8 @@ put-requires g c =
       start_number lawful _ _ _ _ c.loop-variable-test.true c.variables-variable-end.ensures c.loop-variable.invariant.0 (c.loop-variable.auto.values ∙ c.requires),
     )
 
-pub overflow-add-offset-in-loop-variable : goal.overflow-add-offset-in-loop-variable
-overflow-add-offset-in-loop-variable g c =
+pub overflow_add-offset-in-loop-variable : goal.overflow_add-offset-in-loop-variable
+overflow_add-offset-in-loop-variable g c =
     let lawful = g.S.TaskSource.lawful c.args.source.now in
     omega (
       arith,
@@ -42,5 +42,5 @@ loop-variable-preserved g c =
     let old = c.loop-variable.invariant.1 in
     let step = started_more o t c.args.values.now v in (
       omega (arith, offset_more t.size v, off, c.size-offset.ensures),
-      cc (c.put.ensures, c.at-start.ensures, c.start.ensures),
+      cc (c.put.ensures, c.at_start.ensures, c.start.ensures),
     )

@@ -6,4 +6,4 @@ use Rattle.lists.proofs.Views.{add_row}
 use Rattle.lists.proofs.table.Table.add_action.Goals as goal
 
 pub returns : goal.returns
-returns c = ap (with_rows (lists_of c.args.self.now)) (add_row (vec_items c.args.self.now.operators) _ _ c.in-ok-push.ensures.items (same_rows c.new.ensures.items c.new-2.ensures.items c.new-3.ensures.items))
+returns c = ap (with_rows (lists_of c.args.self.now)) (add_row (vec_items c.args.self.now.operators) _ _ c.in_ok-push.ensures.items (same_rows c.new.ensures.items c.new-2.ensures.items c.new-3.ensures.items))

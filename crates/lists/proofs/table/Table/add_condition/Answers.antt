@@ -8,6 +8,6 @@ use Rattle.lists.proofs.table.Table.add_condition.Goals as goal
 
 pub returns : goal.returns
 returns c =
-    relast_at (lists_of c.args.self.now) (vec_items c.args.self.now.operators) c.index-mut.result.now _
+    relast_at (lists_of c.args.self.now) (vec_items c.args.self.now.operators) c.index_mut.result.now _
     (λ (r : Row). record { conditions = and_pair r.conditions c.args.variable c.args.value; effects = r.effects; deletes = r.deletes })
-    c.len-last.result refl (omega arith) (omega arith) c.index-mut.ensures.value (same_rows c.in-ok-push.ensures.items refl refl)
+    c.len-last.result refl (omega arith) (omega arith) c.index_mut.ensures.value (same_rows c.in_ok-push.ensures.items refl refl)
