@@ -1,7 +1,7 @@
 // The form of papers.
 ghost use Rattle.paper.specs.Paper.{paper_rules};
 ghost use Rattle.paper.specs.Papers.{paper_grows};
-ghost use Rattle.std.proofs.Common.{rules};
+ghost use Rattle.std.specs.Prelude.{refl};
 
 use forms::form::{Entry, RecordForm};
 use records::record::{Kind, Record};
@@ -11,7 +11,7 @@ pub struct PaperForm;
 impl RecordForm for PaperForm {
     ghost rules = { paper_rules };
 
-    ghost begins = { Prim.search rules };
+    ghost begins = { refl };
 
     ghost grows = { paper_grows };
 

@@ -1,7 +1,7 @@
 // The form of sheets.
 ghost use Rattle.sheet.specs.Sheet.{sheet_rules};
 ghost use Rattle.sheet.specs.Sheets.{sheet_grows};
-ghost use Rattle.std.proofs.Common.{rules};
+ghost use Rattle.std.specs.Prelude.{refl};
 
 use forms::form::{Entry, RecordForm};
 use records::record::{Kind, Record};
@@ -11,7 +11,7 @@ pub struct SheetForm;
 impl RecordForm for SheetForm {
     ghost rules = { sheet_rules };
 
-    ghost begins = { Prim.search rules };
+    ghost begins = { refl };
 
     ghost grows = { sheet_grows };
 

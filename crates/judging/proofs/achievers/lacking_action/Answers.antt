@@ -11,13 +11,13 @@ returns-in-Greedy g c built =
     let t = g.S.TaskSource.task c.args.source.now in
     let e = c.args.earlier in
     let l = c.args.later in
-    subst (λ κ. MatchOption c.first-lacking.result (Confirmed κ t e l) (Lowest (Lacking κ t e l))) (sym c.in-Greedy.is)
-    (lacks_judged (g.S.TaskSource.lawful c.args.source.now) Greedy e l _ (reach_as g.S.TaskSource.task l c.new-barred.ensures.inner c.new-barred.ensures.fact _ c.fill-reach.ensures) _ c.first-lacking.ensures)
+    subst (λ κ. MatchOption c.first_lacking.result (Confirmed κ t e l) (Lowest (Lacking κ t e l))) (sym c.in-Greedy.is)
+    (lacks_judged (g.S.TaskSource.lawful c.args.source.now) Greedy e l _ (reach_as g.S.TaskSource.task l c.new-barred.ensures.inner c.new-barred.ensures.fact _ c.fill_reach.ensures) _ c.first_lacking.ensures)
 
 pub returns-in-Necessary : goal.returns-in-Necessary
 returns-in-Necessary g c built =
     let t = g.S.TaskSource.task c.args.source.now in
     let e = c.args.earlier in
     let l = c.args.later in
-    subst (λ κ. MatchOption c.first-lacking-in-Necessary.result (Confirmed κ t e l) (Lowest (Lacking κ t e l))) (sym c.in-Necessary.is)
-    (lacks_judged (g.S.TaskSource.lawful c.args.source.now) Necessary e l _ built _ c.first-lacking-in-Necessary.ensures)
+    subst (λ κ. MatchOption c.first_lacking-in-Necessary.result (Confirmed κ t e l) (Lowest (Lacking κ t e l))) (sym c.in-Necessary.is)
+    (lacks_judged (g.S.TaskSource.lawful c.args.source.now) Necessary e l _ built _ c.first_lacking-in-Necessary.ensures)

@@ -10,8 +10,8 @@ use Rattle.judging.proofs.counts.count_visited.Goals.{then-held-number, else-hel
 pub loop-number-init : goal.loop-number-init
 loop-number-init g c = none
 
-pub overflow-add-total : goal.overflow-add-total
-overflow-add-total g c = omega (arith, count_le c.loop-number.invariant, c.loop-number-test.true, c.count-facts-number-end.ensures.bound)
+pub overflow_add-total : goal.overflow_add-total
+overflow_add-total g c = omega (arith, count_le c.loop-number.invariant, c.loop-number-test.true, c.count_facts-number-end.ensures.bound)
 
 pub loop-number-preserved : goal.loop-number-preserved
 loop-number-preserved g c =
@@ -25,5 +25,5 @@ loop-number-preserved g c =
 pub returns : goal.returns
 returns g c =
     let P = VisitedIn c.args.held.now c.args.visited.now in
-    let last : c.loop-number.number ≡ facts (g.S.TaskSource.task c.args.source.now) = omega (arith, c.loop-number.auto.number-end, c.loop-number-test.false, c.count-facts-number-end.ensures.value) in
+    let last : c.loop-number.number ≡ facts (g.S.TaskSource.task c.args.source.now) = omega (arith, c.loop-number.auto.number-end, c.loop-number-test.false, c.count_facts-number-end.ensures.value) in
     subst (λ n. Count P n c.loop-number.total) last c.loop-number.invariant

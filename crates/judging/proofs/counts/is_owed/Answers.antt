@@ -11,8 +11,8 @@ bounds-visited-number g c = omega (arith, numbered_below (c.in-Some.ensures.righ
 pub returns-then-not-visited-number : goal.returns-then-not-visited-number
 returns-then-not-visited-number g c = (λ e. (_, c.in-Some.ensures.right _ refl, inl (c.if-held-number.true, c.if-not-visited-number.true)), λ p. refl)
 
-pub offset-bounds-state-fact : goal.offset-bounds-state-fact
-offset-bounds-state-fact g c = omega (arith, (c.in-Some.ensures.right _ refl).in_vars, (g.S.TaskSource.lawful c.args.source.now).few_vars)
+pub offset_bounds-state-fact : goal.offset_bounds-state-fact
+offset_bounds-state-fact g c = omega (arith, (c.in-Some.ensures.right _ refl).in_vars, (g.S.TaskSource.lawful c.args.source.now).few_vars)
 
 pub bounds-state-fact : goal.bounds-state-fact
 bounds-state-fact g c = omega (arith, (c.in-Some.ensures.right _ refl).in_vars, (g.S.TaskSource.lawful c.args.source.now).few_vars)

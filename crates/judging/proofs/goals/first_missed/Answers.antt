@@ -8,7 +8,7 @@ use Rattle.rules.specs.Machine.{Lowest, MissedGoal}
 use Rattle.judging.proofs.Places.{value_place, size_place}
 use Rattle.judging.proofs.Reached.{GoalsBelow, goals_more, goal_in_reach, goal_near, goal_far}
 use Rattle.reach.specs.Relaxed.{Reach}
-use Rattle.judging.proofs.goals.first_missed.Goals.{in-Some+else-not-reach-number, in-default}
+use Rattle.judging.proofs.goals.first_missed.Goals.{in-Some+else-not-reach-number, in_default}
 use Rattle.judging.proofs.goals.first_missed.Given as given
 use Rattle.judging.proofs.goals.first_missed.Goals as goal
 
@@ -17,8 +17,8 @@ below g c =
     let lawful = g.S.TaskSource.lawful c.args.source.now in
     value_place lawful _ _ _ _ c.loop-variable-test.true c.variables-variable-end.ensures c.loop-variable.invariant.0 (lawful.goal_in _ _ (sym c.in-Some.ensures))
 
-pub overflow-add-number : goal.overflow-add-number
-overflow-add-number g c = omega (arith, below g c)
+pub overflow_add-number : goal.overflow_add-number
+overflow_add-number g c = omega (arith, below g c)
 
 pub bounds-reach-number : goal.bounds-reach-number
 bounds-reach-number g c = below g c
@@ -30,8 +30,8 @@ returns-then-not-reach-number g c =
     let inside : c.loop-variable.variable < t.vars = omega (arith, c.variables-variable-end.ensures, c.loop-variable-test.true) in
     goal_far lawful _ c.requires _ _ _ inside c.loop-variable.invariant.0 (sym c.in-Some.ensures) c.if-not-reach-number.true c.loop-variable.invariant.1
 
-pub overflow-add-offset : goal.overflow-add-offset
-overflow-add-offset g c =
+pub overflow_add-offset : goal.overflow_add-offset
+overflow_add-offset g c =
     omega (arith, c.size-offset.ensures, size_place (g.S.TaskSource.lawful c.args.source.now) _ _ _ c.loop-variable-test.true c.variables-variable-end.ensures c.loop-variable.invariant.0)
 
 pub loop-variable-preserved : goal.loop-variable-preserved
@@ -46,7 +46,7 @@ loop-variable-preserved g c =
             | in-Some+else-not-reach-number w ↦
                 (let same : w.in-Some.value ≡ x = some_same _ x (w.in-Some.ensures ∙ goal) in
                 subst (λ y. Reach t (fact v y)) same (goal_near lawful _ c.requires v _ _ inside c.loop-variable.invariant.0 (sym w.in-Some.ensures) w.if-not-reach-number.false))
-            | in-default w ↦ absurd (no_some x (w.in-default.ensures ∙ goal))
+            | in_default w ↦ absurd (no_some x (w.in_default.ensures ∙ goal))
           ]),
     )
 

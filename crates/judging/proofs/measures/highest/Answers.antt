@@ -7,7 +7,7 @@ use Rattle.judging.proofs.Places.{value_place, size_place}
 use Rattle.judging.proofs.Levels.{LevelBelow, level_start, level_none, level_some, level_near, level_told, goal_out}
 use Rattle.judging.proofs.measures.highest.Given as given
 use Rattle.judging.proofs.measures.highest.Goals as goal
-use Rattle.judging.proofs.measures.highest.Goals.{in-Some+in-Some-layer, in-default}
+use Rattle.judging.proofs.measures.highest.Goals.{in-Some+in-Some-layer, in_default}
 
 pub loop-variable-init : goal.loop-variable-init
 loop-variable-init g c = (refl, level_start _)
@@ -17,23 +17,23 @@ below g c =
     let lawful = g.S.TaskSource.lawful c.args.source.now in
     value_place lawful _ _ _ _ c.loop-variable-test.true c.variables-variable-end.ensures c.loop-variable.invariant.0 (lawful.goal_in _ _ (sym c.in-Some.ensures))
 
-pub overflow-add-offset : goal.overflow-add-offset
-overflow-add-offset g c = omega (arith, below g c)
+pub overflow_add-offset : goal.overflow_add-offset
+overflow_add-offset g c = omega (arith, below g c)
 
-pub offset-bounds-levels-offset : goal.offset-bounds-levels-offset
-offset-bounds-levels-offset g c = omega (arith, below g c)
+pub offset_bounds-levels-offset : goal.offset_bounds-levels-offset
+offset_bounds-levels-offset g c = omega (arith, below g c)
 
 pub bounds-levels-offset : goal.bounds-levels-offset
 bounds-levels-offset g c = below g c
 
-pub returns-in-default-layer : goal.returns-in-default-layer
-returns-in-default-layer g c =
+pub returns-in_default-layer : goal.returns-in_default-layer
+returns-in_default-layer g c =
     let t = g.S.TaskSource.task c.args.source.now in
     let goal = sym c.in-Some.ensures in
-    goal_out t _ _ goal (subst (LevelIs t (fact c.loop-variable.variable c.in-Some.value)) (sym c.in-default-layer.ensures) (level_told (g.S.TaskSource.lawful c.args.source.now) c.args.levels.now c.requires c.told-levels _ _ _ _ c.loop-variable-test.true c.variables-variable-end.ensures c.loop-variable.invariant.0 goal))
+    goal_out t _ _ goal (subst (LevelIs t (fact c.loop-variable.variable c.in-Some.value)) (sym c.in_default-layer.ensures) (level_told (g.S.TaskSource.lawful c.args.source.now) c.args.levels.now c.requires c.told-levels _ _ _ _ c.loop-variable-test.true c.variables-variable-end.ensures c.loop-variable.invariant.0 goal))
 
-pub overflow-add-offset-in-loop-variable : goal.overflow-add-offset-in-loop-variable
-overflow-add-offset-in-loop-variable g c =
+pub overflow_add-offset-in-loop-variable : goal.overflow_add-offset-in-loop-variable
+overflow_add-offset-in-loop-variable g c =
     omega (arith, c.size-offset.ensures, size_place (g.S.TaskSource.lawful c.args.source.now) _ _ _ c.loop-variable-test.true c.variables-variable-end.ensures c.loop-variable.invariant.0)
 
 pub loop-variable-preserved : goal.loop-variable-preserved
@@ -47,7 +47,7 @@ loop-variable-preserved g c =
             let told = level_told (g.S.TaskSource.lawful c.args.source.now) c.args.levels.now c.requires c.told-levels v _ _ _ c.loop-variable-test.true c.variables-variable-end.ensures c.loop-variable.invariant.0 goal in
             let level = subst (LevelIs t (fact v w.in-Some.value)) (sym w.in-Some-layer.ensures) told in
             subst (LevelBelow t (v + 1)) (sym (w.highest-is ∙ w.max-highest.ensures)) (level_some t v _ _ _ c.loop-variable.invariant.1 goal level))
-        | in-default w ↦ subst (LevelBelow t (v + 1)) (sym w.highest-is) (level_none t v _ c.loop-variable.invariant.1 (sym w.in-default.ensures))
+        | in_default w ↦ subst (LevelBelow t (v + 1)) (sym w.highest-is) (level_none t v _ c.loop-variable.invariant.1 (sym w.in_default.ensures))
       ],
     )
 

@@ -4,7 +4,7 @@ use Rattle.task.specs.Paths.{given_or, after}
 use Rattle.judging.specs.Position.{of_list}
 use Rattle.judging.proofs.Places.{Split, split_write, split_keep}
 use Rattle.judging.proofs.position.advance.Goals as goal
-use Rattle.judging.proofs.position.advance.Goals.{in-Some, in-default}
+use Rattle.judging.proofs.position.advance.Goals.{in-Some, in_default}
 
 pub loop-variable-init : goal.loop-variable-init
 loop-variable-init g c = (c.told-state, (λ k h. absurd (omega arith), λ k h. refl))
@@ -22,7 +22,7 @@ loop-variable-preserved g c =
       c.match-effect.array_long,
       elim c.match-effect.branch [
         | in-Some w ↦ subst (Split (after t s a) s (v + 1)) (sym w.state-is) (split_write (after t s a) s v _ _ room (ap (λ o. given_or o (s v)) (sym w.in-Some.ensures)) c.loop-variable.invariant.1)
-        | in-default w ↦ subst (Split (after t s a) s (v + 1)) (sym w.state-is) (split_keep (after t s a) s v _ (ap (λ o. given_or o (s v)) (sym w.in-default.ensures)) c.loop-variable.invariant.1)
+        | in_default w ↦ subst (Split (after t s a) s (v + 1)) (sym w.state-is) (split_keep (after t s a) s v _ (ap (λ o. given_or o (s v)) (sym w.in_default.ensures)) c.loop-variable.invariant.1)
       ],
     )
 

@@ -4,18 +4,18 @@ use Rattle.task.proofs.Options.{no_some, some_same}
 use Rattle.judging.specs.Position.{of_list}
 use Rattle.judging.proofs.Places.{MetBelow, value_place, size_place, met_more, met_all, unmet_at}
 use Rattle.judging.proofs.position.first_unmet.Goals as goal
-use Rattle.judging.proofs.position.first_unmet.Goals.{in-Some+else-state-variable, in-default}
+use Rattle.judging.proofs.position.first_unmet.Goals.{in-Some+else-state-variable, in_default}
 
 pub bounds-state-variable : goal.bounds-state-variable
 bounds-state-variable g c = omega (arith, c.loop-variable-test.true, c.variables-variable-end.ensures, (g.S.TaskSource.lawful c.args.source.now).few_vars)
 
-pub overflow-add-result : goal.overflow-add-result
-overflow-add-result g c =
+pub overflow_add-result : goal.overflow_add-result
+overflow_add-result g c =
     let lawful = g.S.TaskSource.lawful c.args.source.now in
     omega (arith, value_place lawful _ _ _ _ c.loop-variable-test.true c.variables-variable-end.ensures c.loop-variable.invariant.0 (lawful.need_in c.args.action _ _ (sym c.in-Some.ensures)))
 
-pub overflow-add-offset : goal.overflow-add-offset
-overflow-add-offset g c =
+pub overflow_add-offset : goal.overflow_add-offset
+overflow_add-offset g c =
     omega (arith, c.size-offset.ensures, size_place (g.S.TaskSource.lawful c.args.source.now) _ _ _ c.loop-variable-test.true c.variables-variable-end.ensures c.loop-variable.invariant.0)
 
 pub returns-then-state-variable : goal.returns-then-state-variable
@@ -34,7 +34,7 @@ loop-variable-preserved g c =
       met_more t s c.args.action v c.loop-variable.invariant.1 (λ x goal.
           elim c.match-need.branch [
             | in-Some+else-state-variable w ↦ w.if-state-variable.false ∙ some_same _ x (w.in-Some.ensures ∙ goal)
-            | in-default w ↦ absurd (no_some x (w.in-default.ensures ∙ goal))
+            | in_default w ↦ absurd (no_some x (w.in_default.ensures ∙ goal))
           ]),
     )
 

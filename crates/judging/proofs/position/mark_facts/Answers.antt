@@ -6,8 +6,8 @@ use Rattle.judging.proofs.position.mark_facts.Given as given
 use Rattle.judging.proofs.position.mark_facts.Goals as goal
 use Rattle.judging.proofs.position.mark_facts.Goals.{then-value-size, else-value-size}
 
-pub overflow-add-marks : goal.overflow-add-marks
-overflow-add-marks g c =
+pub overflow_add-marks : goal.overflow_add-marks
+overflow_add-marks g c =
     omega (arith, value_place (g.S.TaskSource.lawful c.args.source.now) _ _ _ _ c.loop-variable-test.true c.variables-variable-end.ensures c.loop-variable.invariant.1 (subst (λ n. of_list c.args.state.now c.loop-variable.variable < n) c.size-size.ensures c.if-value-size.true))
 
 pub bounds-marks-offset : goal.bounds-marks-offset
@@ -17,8 +17,8 @@ bounds-marks-offset g c =
 pub bounds-state-variable : goal.bounds-state-variable
 bounds-state-variable g c = omega (arith, c.loop-variable-test.true, c.variables-variable-end.ensures, (g.S.TaskSource.lawful c.args.source.now).few_vars)
 
-pub overflow-add-offset : goal.overflow-add-offset
-overflow-add-offset g c =
+pub overflow_add-offset : goal.overflow_add-offset
+overflow_add-offset g c =
     omega (arith, c.size-size.ensures, size_place (g.S.TaskSource.lawful c.args.source.now) _ _ _ c.loop-variable-test.true c.variables-variable-end.ensures c.loop-variable.invariant.1)
 
 pub loop-variable-preserved : goal.loop-variable-preserved

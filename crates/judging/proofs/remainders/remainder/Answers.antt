@@ -1,16 +1,16 @@
 use Rattle.std.proofs.Common.{◌≡◌, max, sym, refl, ap, ◌∙◌, subst}
 use Rattle.judging.proofs.remainders.remainder.Goals as goal
 
-pub returns-in-default : goal.returns-in-default
-returns-in-default g c = rw (c.new-here.ensures.inner, c.new-here.ensures.state) at c.in-default.ensures
+pub returns-in_default : goal.returns-in_default
+returns-in_default g c = rw (c.new-here.ensures.inner, c.new-here.ensures.state) at c.in_default.ensures
 
 pub returns : goal.returns
 returns g c = record {
-  owed = c.count-owed-owed.result;
+  owed = c.count_owed-owed.result;
   width = c.widest-width.result;
   level = c.in-Some.level;
-  owes = c.count-owed-owed.ensures.count;
+  owes = c.count_owed-owed.ensures.count;
   most = c.widest-width.ensures.width;
   goal = rw (c.new-here.ensures.inner, c.new-here.ensures.state) at c.in-Some.ensures;
-  is = c.max.ensures ∙ ap (max c.in-Some.level) c.quotient-of.ensures;
+  is = c.max.ensures ∙ ap (max c.in-Some.level) c.quotient_of.ensures;
 }

@@ -11,4 +11,4 @@ pub loop-place-preserved : goal.loop-place-preserved
 loop-place-preserved g c =
     let t = g.S.TaskSource.task c.args.source.now in
     filled_more (λ k. t.give (k / 64) (k % 64)) c.loop-place.place c.narrow.result c.effect.result (vec_items c.loop-place.effects) (vec_items c.push.new.self)
-    c.loop-place.invariant c.in-ok-push.ensures.items c.narrow.ensures c.effect.ensures
+    c.loop-place.invariant c.in_ok-push.ensures.items c.narrow.ensures c.effect.ensures

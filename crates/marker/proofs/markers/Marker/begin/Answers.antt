@@ -7,4 +7,4 @@ pub returns-in-Some : goal.returns-in-Some
 returns-in-Some g c = record { source = refl; tally = refl; turn = λ m s. missed_turn s _ _ c.in-Some.is }
 
 pub returns : goal.returns
-returns g c = record { source = refl; tally = refl; turn = λ m s. begin_turn s _ c.in-default.is c.put-start.ensures c.mark-facts.ensures refl refl refl refl refl }
+returns g c = record { source = refl; tally = refl; turn = λ m s. begin_turn s _ c.in_default.is c.put_start.ensures c.mark_facts.ensures refl refl refl refl refl }

@@ -11,6 +11,6 @@ returns-then-later-ge256 g c m s = sym (s.outside _ _ _ (inr c.if-later-ge256.tr
 pub returns : goal.returns
 returns g c m s =
     let self = c.args.self.now in
-    sym (read self.orders _ _ c.place-of.ensures.bound self.long c.index.ensures)
-    ∙ ap (λ p. get_or (vec_items self.orders) p false) c.place-of.ensures.value
+    sym (read self.orders _ _ c.place_of.ensures.bound self.long c.index.ensures)
+    ∙ ap (λ p. get_or (vec_items self.orders) p false) c.place_of.ensures.value
     ∙ s.ordered _ _ _ c.if-earlier-ge256.false c.if-later-ge256.false

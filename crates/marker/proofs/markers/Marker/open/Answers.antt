@@ -5,6 +5,6 @@ use Rattle.marker.proofs.markers.Marker.open.Goals as goal
 pub returns : goal.returns
 returns g c = record {
   source = refl;
-  opened = shows_opened _ _ refl (c.in-ok-orders.ensures.items-if-clones-equal (λ y e. e)) c.put-start.ensures c.mark-facts.ensures refl c.missed-goal-missed.ensures.reach c.missed-goal-missed.ensures.missed;
+  opened = shows_opened _ _ refl (c.in_ok-orders.ensures.items_if_clones_equal (λ y e. e)) c.put_start.ensures c.mark_facts.ensures refl c.missed_goal-missed.ensures.reach c.missed_goal-missed.ensures.missed;
   tally = refl;
 }
