@@ -2,13 +2,12 @@
 ghost use Rattle.std.specs.Prelude.{◌≡◌, vec_len};
 
 use reach::measure::InReach;
-use task::task_source::TaskSource;
 
 // Facts go by their numbers. `reach` is the task's own reach and `missed` its lowest goal fact out of it. `held` says which facts the
 // key has; `orders` has a place for each kind and each pair of facts; `state` has a value for each variable; `visited` says which
 // facts the sitting has visited in `steps` steps; `tally` counts the proposals and orderings that were not confirmed.
 #[derive(Drop)]
-pub struct Marker<S: TaskSource> {
+pub struct Marker<S> {
     source: S,
     reach: [InReach; 256],
     missed: Option<usize>,
