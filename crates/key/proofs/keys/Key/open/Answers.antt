@@ -1,8 +1,8 @@
 use Rattle.key.proofs.Leading.{led_opened, key_opened}
 use Rattle.key.proofs.keys.Key.open.Goals as goal
 
-pub invariant-of-result : goal.invariant-of-result
-invariant-of-result g c = (led_opened _ _ c.in-ok-marker.ensures.source c.in-ok-marker.ensures.opened c.in-ok-marker.ensures.tally, tt)
+pub invariant_of-result : goal.invariant_of-result
+invariant_of-result g c = record { led = led_opened _ _ c.in_ok-marker.ensures.source c.in_ok-marker.ensures.opened c.in_ok-marker.ensures.tally }
 
 pub returns : goal.returns
-returns g c = key_opened _ _ c.in-ok-table.ensures c.in-ok-marker.ensures.source c.in-ok-marker.ensures.opened c.in-ok-marker.ensures.tally
+returns g c = key_opened _ _ c.in_ok-table.ensures c.in_ok-marker.ensures.source c.in_ok-marker.ensures.opened c.in_ok-marker.ensures.tally
