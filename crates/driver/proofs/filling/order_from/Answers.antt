@@ -12,6 +12,6 @@ loop-later-preserved c = from_more {a = c.args.key.now} {b = c.loop-later.key} {
 
 pub returns : goal.returns
 returns c =
-    let limit : c.count-facts-later-end.result ≡ facts (task_of c.args.key.now) = c.count-facts-later-end.ensures.value ∙ ap facts c.source.ensures in
+    let limit : c.count_facts-later-end.result ≡ facts (task_of c.args.key.now) = c.count_facts-later-end.ensures.value ∙ ap facts c.source.ensures in
     let last : c.loop-later.later ≡ facts (task_of c.args.key.now) = omega (arith, limit, c.loop-later.auto.later-end, c.loop-later-test.false) in
     from_all {a = c.args.key.now} {b = c.loop-later.key} c.args.earlier c.loop-later.later last c.loop-later.invariant

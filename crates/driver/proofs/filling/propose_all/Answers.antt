@@ -12,6 +12,6 @@ loop-number-preserved c = landmarks_more {a = c.args.key.now} {b = c.loop-number
 
 pub returns : goal.returns
 returns c =
-    let limit : c.count-facts-number-end.result ≡ facts (task_of c.args.key.now) = c.count-facts-number-end.ensures.value ∙ ap facts c.source.ensures in
+    let limit : c.count_facts-number-end.result ≡ facts (task_of c.args.key.now) = c.count_facts-number-end.ensures.value ∙ ap facts c.source.ensures in
     let last : c.loop-number.number ≡ facts (task_of c.args.key.now) = omega (arith, limit, c.loop-number.auto.number-end, c.loop-number-test.false) in
     landmarks_all {a = c.args.key.now} {b = c.loop-number.key} c.loop-number.number last c.loop-number.invariant

@@ -16,7 +16,7 @@ loop-number-preserved c =
 
 pub returns-then-holds : goal.returns-then-holds
 returns-then-holds c =
-    let limit : c.count-facts-number-end.result ≡ facts (task_of c.args.key.now) = c.count-facts-number-end.ensures.value ∙ ap facts c.source.ensures in
+    let limit : c.count_facts-number-end.result ≡ facts (task_of c.args.key.now) = c.count_facts-number-end.ensures.value ∙ ap facts c.source.ensures in
     let below : c.loop-number.number < facts (task_of c.args.key.now) = omega (arith, limit, c.loop-number-test.true) in
     record {
       within = λ n e. (omega (arith, c.loop-number.invariant.0, some_same _ _ e), omega (arith, below, some_same _ _ e));
@@ -28,7 +28,7 @@ returns-then-holds c =
 
 pub returns : goal.returns
 returns c =
-    let limit : c.count-facts-number-end.result ≡ facts (task_of c.args.key.now) = c.count-facts-number-end.ensures.value ∙ ap facts c.source.ensures in
+    let limit : c.count_facts-number-end.result ≡ facts (task_of c.args.key.now) = c.count_facts-number-end.ensures.value ∙ ap facts c.source.ensures in
     record {
       within = λ n e. absurd (no_some n e);
       next = λ m s n ahead. c.loop-number.invariant.1 m s n ahead.0 (omega (arith, limit, ahead.1, c.loop-number-test.false)) ahead.2;

@@ -10,13 +10,13 @@ loop-place-init c = (omega arith, λ m s. none_start (OrderedAt m) _ _ refl)
 
 pub loop-place-preserved : goal.loop-place-preserved
 loop-place-preserved c =
-    (omega (arith, c.loop-place.invariant.0), λ m s. none_more (OrderedAt m) _ _ (c.loop-place.invariant.1 m s) (λ p. both_ways _ c.if-is-pair.false ((c.is-pair.ensures m s).1 p)))
+    (omega (arith, c.loop-place.invariant.0), λ m s. none_more (OrderedAt m) _ _ (c.loop-place.invariant.1 m s) (λ p. both_ways _ c.if-is_pair.false ((c.is_pair.ensures m s).1 p)))
 
-pub returns-then-is-pair : goal.returns-then-is-pair
-returns-then-is-pair c = record {
+pub returns-then-is_pair : goal.returns-then-is_pair
+returns-then-is_pair c = record {
   within = λ n e. (omega (arith, c.loop-place.invariant.0, some_same _ _ e), omega (arith, c.loop-place-test.true, some_same _ _ e));
   next = λ m s. record {
-    holds = (c.loop-place.invariant.0, c.loop-place-test.true, (c.is-pair.ensures m s).0 c.if-is-pair.true);
+    holds = (c.loop-place.invariant.0, c.loop-place-test.true, (c.is_pair.ensures m s).0 c.if-is_pair.true);
     first = λ k low ahead. c.loop-place.invariant.1 m s k ahead.0 low ahead.2;
   };
 }

@@ -10,4 +10,4 @@ loop-line-init c m s = (0, c.start-cursor.ensures m s, subst (FirstLines (task_o
 pub loop-line-preserved : goal.loop-line-preserved
 loop-line-preserved c m s =
     let (n, stands, first) = c.loop-line.invariant m s in
-    one_more c.next-line.new.self c.in-Some.line (vec_items c.loop-line.text) (vec_items c.append-line.new.text) first (c.in-Some.ensures.passed m n s stands) c.in-ok-append-line.ensures
+    one_more c.next_line.new.self c.in-Some.line (vec_items c.loop-line.text) (vec_items c.append_line.new.text) first (c.in-Some.ensures.passed m n s stands) c.in_ok-append_line.ensures

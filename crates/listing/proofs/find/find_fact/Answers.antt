@@ -20,7 +20,7 @@ loop-number-preserved c =
 
 pub returns-then-before-index : goal.returns-then-before-index
 returns-then-before-index c =
-    let limit : c.count-facts-number-end.result ≡ facts (task_of c.args.key.now) = c.count-facts-number-end.ensures.value ∙ ap facts c.source.ensures in
+    let limit : c.count_facts-number-end.result ≡ facts (task_of c.args.key.now) = c.count_facts-number-end.ensures.value ∙ ap facts c.source.ensures in
     record {
       within = omega (arith, limit, c.loop-number-test.true);
       sought = λ m s. (sym (c.holds.ensures m s) ∙ c.if-holds.true, subst (Count (HeldAt m) c.loop-number.number) c.if-before-index.true (c.loop-number.invariant.0 m s));
@@ -28,7 +28,7 @@ returns-then-before-index c =
 
 pub returns : goal.returns
 returns c =
-    let limit : c.count-facts-number-end.result ≡ facts (task_of c.args.key.now) = c.count-facts-number-end.ensures.value ∙ ap facts c.source.ensures in
+    let limit : c.count_facts-number-end.result ≡ facts (task_of c.args.key.now) = c.count_facts-number-end.ensures.value ∙ ap facts c.source.ensures in
     let last : c.loop-number.number ≡ facts (task_of c.args.key.now) = omega (arith, limit, c.loop-number.auto.number-end, c.loop-number-test.false) in
     record {
       within = (omega (arith, last, c.loop-number.invariant.2), c.loop-number.invariant.1);

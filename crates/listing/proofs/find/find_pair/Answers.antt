@@ -4,23 +4,23 @@ use Rattle.rules.specs.Machine.{Count}
 use Rattle.listing.specs.Listing.{OrderedAt}
 use Rattle.listing.proofs.Finds.{seen_none, seen_hit, seen_miss}
 use Rattle.listing.proofs.find.find_pair.Goals as goal
-use Rattle.listing.proofs.find.find_pair.Goals.{then-is-pair+else-before-index, else-is-pair}
+use Rattle.listing.proofs.find.find_pair.Goals.{then-is_pair+else-before-index, else-is_pair}
 
 pub loop-place-init : goal.loop-place-init
 loop-place-init c = seen_none c.args.key.now OrderedAt c.args.index
 
 pub loop-place-preserved : goal.loop-place-preserved
 loop-place-preserved c =
-    elim c.if-is-pair.branch [
-      | then-is-pair+else-before-index w ↦ seen_hit c.args.key.now OrderedAt c.loop-place.place c.loop-place.before _ c.args.index c.loop-place.invariant (λ m s. (c.is-pair.ensures m s).0 w.if-is-pair.true) w.if-before-index.false w.before-is
-      | else-is-pair w ↦ seen_miss c.args.key.now OrderedAt c.loop-place.place c.loop-place.before _ c.args.index c.loop-place.invariant (λ m s p. both_ways _ w.if-is-pair.false ((c.is-pair.ensures m s).1 p)) w.before-is
+    elim c.if-is_pair.branch [
+      | then-is_pair+else-before-index w ↦ seen_hit c.args.key.now OrderedAt c.loop-place.place c.loop-place.before _ c.args.index c.loop-place.invariant (λ m s. (c.is_pair.ensures m s).0 w.if-is_pair.true) w.if-before-index.false w.before-is
+      | else-is_pair w ↦ seen_miss c.args.key.now OrderedAt c.loop-place.place c.loop-place.before _ c.args.index c.loop-place.invariant (λ m s p. both_ways _ w.if-is_pair.false ((c.is_pair.ensures m s).1 p)) w.before-is
     ]
 
 pub returns-then-before-index : goal.returns-then-before-index
 returns-then-before-index c =
     record {
       within = c.loop-place-test.true;
-      sought = λ m s. ((c.is-pair.ensures m s).0 c.if-is-pair.true, subst (Count (OrderedAt m) c.loop-place.place) c.if-before-index.true (c.loop-place.invariant.0 m s));
+      sought = λ m s. ((c.is_pair.ensures m s).0 c.if-is_pair.true, subst (Count (OrderedAt m) c.loop-place.place) c.if-before-index.true (c.loop-place.invariant.0 m s));
     }
 
 pub returns : goal.returns

@@ -11,9 +11,9 @@ use Rattle.key_text.proofs.cursor.Cursor.start.Goals as goal
 pub unreachable-requires : goal.unreachable-requires
 unreachable-requires c =
     let s = c.source.result.now in
-    never_short (is_lawful (held s) s.lawful) _ _ _ _ refl refl c.in-default.ensures
+    never_short (is_lawful (held s) s.lawful) _ _ _ _ refl refl c.in_default.ensures
 
 pub returns : goal.returns
 returns c m s =
-    let levels = c.build-levels.new.levels in
+    let levels = c.build_levels.new.levels in
     stands_first (task_of c.args.key.now) m _ (subst (λ (t : Task). LevelsBuilt t levels) c.source.ensures c.in-Some.ensures.filled.holds) refl refl
