@@ -3,4 +3,4 @@ use Rattle.trial_runs.proofs.Runs.{only_answers}
 use Rattle.trial_runs.proofs.run_trial_7.Goals as goal
 
 pub returns : goal.returns
-returns c = only_answers c.run-with-key.result trial_7_lem.0 c.run-with-key.ensures
+returns c = only_answers c.run_with_key.result trial_7_lem.0 c.run_with_key.ensures
