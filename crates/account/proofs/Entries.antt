@@ -1,5 +1,5 @@
 -- Entries of an account.
-use Rattle.std.proofs.Common.{◌≡◌, ℕ, suc, ◌+◌, ◌<◌, ◌≤◌, List, [], ◌∷◌, ◌++◌, length, get_or, Some, None, Option, sym, ap, ◌∙◌, subst, inl, inr, add-one, arith}
+use Rattle.std.proofs.Common.{◌≡◌, ℕ, suc, ◌+◌, ◌<◌, List, [], ◌∷◌, ◌++◌, length, get_or, None, Option, sym, ap, ◌∙◌, subst, inl, inr, add-one, arith}
 use Rattle.task.specs.Task.{Task, Fact, Lawful, Numbered, facts}
 use Rattle.task.specs.Facts.{Exactly}
 use Rattle.task.proofs.Numbers.{numbered}
@@ -8,7 +8,7 @@ use Rattle.reach.specs.declared.measure.AtLevel.{AtLevel}
 use Rattle.reach.specs.Built.{LevelIs, LevelsBuilt, TooShort}
 use Rattle.reach.specs.Measures.{layer_of, of_level}
 use Rattle.account.specs.declared.account.FactLevel.{FactLevel}
-use Rattle.account.specs.Accounts.{EntryOf, Listed}
+use Rattle.account.specs.Accounts.{Listed}
 use Rattle.account.specs.Accounts.Listed.{none, more}
 
 -- the first entries: none

@@ -1,12 +1,12 @@
 -- What proposals and orderings keep.
-use Rattle.std.proofs.Common.{◌≡◌, ℕ, true, ◌&&◌, ◌||◌, eqb, ◌⊎◌, List, [], ◌∷◌, ◌++◌, sym, refl, ap, ◌∙◌, subst, inl, inr}
+use Rattle.std.proofs.Common.{◌≡◌, ℕ, true, ◌&&◌, eqb, List, [], sym, refl, ap, ◌∙◌, subst, inl, inr}
 use Rattle.std.proofs.lemmas.Bool.{or_left}
 use Rattle.task.specs.Task.{Task}
 use Rattle.reach.specs.Relaxed.{GoalInReach}
 use Rattle.rules.specs.declared.calls.Kind.{Kind}
 use Rattle.rules.specs.declared.calls.Call.{Call}
 use Rattle.rules.specs.declared.calls.Answer.{Answer}
-use Rattle.rules.specs.Machine.{Machine, Session, Session.open_empty, Session.and_then, opened, with_fact, with_ordering, same_kind}
+use Rattle.rules.specs.Machine.{Machine, Session, Session.open_empty, Session.and_then, opened, same_kind}
 use Rattle.driver.specs.Filling.{Leads, Leads.stays, Leads.proposes, Leads.orders}
 use Rattle.driver.proofs.Turning.{proposed_left, ordered_left}
 

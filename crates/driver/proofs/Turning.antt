@@ -1,15 +1,15 @@
 -- What one proposal or ordering does to a machine.
-use Rattle.std.proofs.Common.{◌≡◌, ℕ, ◌<◌, ◌≤◌, Bool, true, false, ◌&&◌, ◌||◌, eqb, ◌⊎◌, sym, refl, ap, subst, inl, inr, arith}
-use Rattle.std.proofs.lemmas.Bool.{both_ways, or_left, or_right, and_from, eq-eqb}
-use Rattle.task.specs.Task.{Task, Fact, Start, Numbered, facts}
+use Rattle.std.proofs.Common.{◌≡◌, ℕ, true, ◌&&◌, eqb, ◌⊎◌, sym, refl, ap, subst, inl, inr, arith}
+use Rattle.std.proofs.lemmas.Bool.{both_ways, or_right, and_from, eq-eqb}
+use Rattle.task.specs.Task.{Task, Fact}
 use Rattle.task.proofs.Numbers.{numbered_below, numbered_unique}
 use Rattle.reach.specs.Relaxed.{GoalInReach}
 use Rattle.rules.specs.declared.calls.Kind.{Kind}
 use Rattle.rules.specs.declared.calls.Kind.TheVariants.{Greedy, Necessary}
 use Rattle.rules.specs.declared.calls.Call.TheVariants.{Propose, Order}
 use Rattle.rules.specs.declared.calls.Answer.{Answer}
-use Rattle.rules.specs.Marks.{Landmark, Counts, Confirmed}
-use Rattle.rules.specs.Machine.{Machine, Turn, Lowest, MissedGoal, KindNumber, Lacking, with_fact, with_ordering, same_kind}
+use Rattle.rules.specs.Marks.{Landmark}
+use Rattle.rules.specs.Machine.{Machine, Turn, Lowest, MissedGoal, KindNumber, with_fact, with_ordering, same_kind}
 use Rattle.rules.specs.Sound.{LandmarkAt, ConfirmedAt}
 use Rattle.rules.proofs.OneAnswer.{kind_unique}
 use Rattle.rules.proofs.Stages.{Outcome, TurnStaged, Ranged, Found, Compared, Weighed, turn_staged}

@@ -1,16 +1,15 @@
 -- Achievers that lack a condition, by what a table of the reach says.
-use Rattle.std.proofs.Common.{◌≡◌, ℕ, ◌+◌, ◌<◌, ◌≤◌, true, false, List, length, get_or, Some, None, Decides, Option, sym, refl, ap, ◌∙◌, subst, inl, inr, arith, MatchOption}
+use Rattle.std.proofs.Common.{◌≡◌, ℕ, ◌+◌, ◌<◌, true, false, List, get_or, Some, None, Option, sym, refl, ap, ◌∙◌, inl, inr, arith, MatchOption}
 use Rattle.std.proofs.lemmas.Bool.{cases_eq}
-use Rattle.task.specs.Task.{Task, Fact, Lawful, Gives, Needs, Numbered, fact, offset}
+use Rattle.task.specs.Task.{Task, Fact, Lawful, Needs, Numbered, fact, offset}
 use Rattle.task.proofs.Inside.{need_var}
 use Rattle.task.proofs.Options.{dec_some}
 use Rattle.reach.specs.declared.measure.InReach.{InReach}
 use Rattle.reach.specs.Built.{ReachBuilt}
 use Rattle.reach.specs.Measures.{of_yes}
-use Rattle.reach.specs.Relaxed.{Reach}
 use Rattle.rules.specs.declared.calls.Kind.{Kind}
 use Rattle.rules.specs.declared.calls.Kind.TheVariants.{Greedy, Necessary}
-use Rattle.rules.specs.Marks.{Counts, Confirmed, counted_in}
+use Rattle.rules.specs.Marks.{Confirmed, counted_in}
 use Rattle.rules.specs.Machine.{Lowest, Lacking}
 use Rattle.judging.specs.Achievers.{AllIn, LacksIn}
 use Rattle.judging.proofs.Lowest.{lowest_as}

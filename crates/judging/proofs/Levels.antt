@@ -2,7 +2,7 @@
 use Rattle.std.proofs.Common.{◌≡◌, ℕ, zero, suc, ◌+◌, ◌<◌, ◌≤◌, max, ◌⊎◌, List, length, get_or, Some, None, sym, refl, ap, ◌∙◌, subst, inl, inr, arith}
 use Rattle.std.proofs.lemmas.List.{get_or_default}
 use Rattle.std.proofs.lemmas.Bool.{cases_lt, cases_eq}
-use Rattle.task.specs.Task.{Task, Fact, Goal, Lawful, Numbered, fact, offset}
+use Rattle.task.specs.Task.{Task, Fact, Goal, Lawful, fact, offset}
 use Rattle.task.proofs.Options.{no_some, some_same}
 use Rattle.reach.specs.declared.measure.AtLevel.{AtLevel}
 use Rattle.reach.specs.Built.{LevelsBuilt, LevelIs}

@@ -1,11 +1,11 @@
 -- Positions, and the facts that hold there.
-use Rattle.std.proofs.Common.{◌≡◌, ℕ, ◌+◌, ◌<◌, ◌≤◌, Bool, true, false, ◌≢◌, ◌⊎◌, List, length, get_or, set, Some, None, Decides, sym, refl, ap, ◌∙◌, subst, inl, inr, arith, get_or-set_other, get_or-set_same}
-use Rattle.std.proofs.lemmas.Bool.{cases_lt, cases_order, cases_eq}
-use Rattle.task.specs.Task.{Task, Fact, Lawful, Needs, Numbered, fact, offset, facts}
-use Rattle.task.specs.Paths.{State, Holds, after}
+use Rattle.std.proofs.Common.{◌≡◌, ℕ, ◌+◌, ◌<◌, ◌≤◌, Bool, true, false, ◌≢◌, ◌⊎◌, List, length, get_or, set, Some, sym, refl, ap, ◌∙◌, subst, inl, inr, arith, get_or-set_other, get_or-set_same}
+use Rattle.std.proofs.lemmas.Bool.{cases_eq}
+use Rattle.task.specs.Task.{Task, Fact, Lawful, Needs, Numbered, fact, offset}
+use Rattle.task.specs.Paths.{State, Holds}
 use Rattle.task.proofs.Inside.{need_var}
-use Rattle.task.proofs.Numbers.{number_in, offset_below, numbered_unique, number_unique}
-use Rattle.task.proofs.Options.{no_some, some_same}
+use Rattle.task.proofs.Numbers.{number_in, offset_below, numbered_unique}
+use Rattle.task.proofs.Options.{some_same}
 use Rattle.rules.specs.Machine.{Lowest, Unmet}
 use Rattle.judging.specs.Position.{HoldsBelow, Marked, Met}
 use Rattle.judging.proofs.Lowest.{lowest_at, lowest_as}

@@ -1,10 +1,10 @@
 -- The goal in reach, the goal facts that are missed, and landmarks, by what a table of the reach says.
-use Rattle.std.proofs.Common.{◌≡◌, ℕ, zero, suc, ◌+◌, ◌<◌, ◌≤◌, true, false, ◌⊎◌, List, [], ◌++◌, length, get_or, is_some, Some, None, Decides, Option, sym, refl, ap, ◌∙◌, subst, inl, inr, not-suc-le-zero, arith, MatchOption}
+use Rattle.std.proofs.Common.{◌≡◌, ℕ, zero, suc, ◌+◌, ◌<◌, true, false, List, [], ◌++◌, length, get_or, is_some, Some, None, Decides, Option, sym, refl, ap, ◌∙◌, subst, inl, inr, not-suc-le-zero, arith, MatchOption}
 use Rattle.std.proofs.lemmas.Bool.{cases_lt, and_parts, not-true, both_ways, false≢true}
-use Rattle.task.specs.Task.{Task, Fact, Start, Goal, Gives, Needs, Lawful, Numbered, fact, offset, facts}
+use Rattle.task.specs.Task.{Task, Fact, Start, Goal, Gives, Lawful, fact, offset}
 use Rattle.task.specs.Paths.{barred}
 use Rattle.task.proofs.Options.{no_some, some_same, some_gives}
-use Rattle.reach.specs.Relaxed.{Has, Relaxed, HasGoal, Reach, GoalInReach}
+use Rattle.reach.specs.Relaxed.{Has, Relaxed, Reach, GoalInReach}
 use Rattle.reach.proofs.Sequences.{relaxed_none, relaxed_++, relaxed_barred, has_left, has_right}
 use Rattle.rules.specs.Marks.{Landmark}
 use Rattle.rules.specs.Machine.{Lowest, MissedGoal}
@@ -12,7 +12,7 @@ use Rattle.rules.proofs.Soundness.{no_goal_missed}
 use Rattle.reach.specs.declared.measure.InReach.{InReach}
 use Rattle.reach.specs.Built.{ReachBuilt}
 use Rattle.reach.specs.Measures.{of_yes}
-use Rattle.judging.proofs.Lowest.{Among, lowest_at, lowest_as}
+use Rattle.judging.proofs.Lowest.{lowest_at, lowest_as}
 
 -- a goal fact past the variables
 pub goal_var : {t : Task} → Lawful t → (f : Fact) → Goal t f → f.variable < t.vars

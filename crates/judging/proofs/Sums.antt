@@ -1,5 +1,5 @@
 -- Counts: bounds, other names, and one number more in a loop.
-use Rattle.std.proofs.Common.{ℕ, suc, ◌+◌, ◌<◌, ◌≤◌, zero-le, add-one, arith}
+use Rattle.std.proofs.Common.{ℕ, ◌+◌, ◌<◌, ◌≤◌, zero-le, add-one, arith}
 use Rattle.rules.specs.Machine.{Count, Count.none, Count.one, Count.skip}
 
 -- at most as many as there are numbers

@@ -1,11 +1,11 @@
 -- From call to call: the invariant of a key, and what a call on it is answered.
-use Rattle.std.proofs.Common.{◌≡◌, ℕ, ◌+◌, min, Bool, true, false, cond, List, [], ◌∷◌, ◌++◌, sym, refl, ap, ◌∙◌, subst, arith}
+use Rattle.std.proofs.Common.{◌≡◌, ℕ, ◌+◌, min, Bool, true, false, cond, List, [], ◌∷◌, ◌++◌, sym, ap, ◌∙◌, subst, arith}
 use mathlib.Core.Logic.{∥∥₁_map}
 use Rattle.task.specs.Single.{is_lawful}
 use Rattle.task.specs.Task.{Task, Lawful}
 use Rattle.rules.specs.declared.calls.Call.{Call}
 use Rattle.rules.specs.declared.calls.Answer.{Answer}
-use Rattle.rules.specs.Machine.{Machine, Turn, Session, Session.open_empty, Session.and_then, opened}
+use Rattle.rules.specs.Machine.{Machine, Session, Session.open_empty, Session.and_then, opened}
 use Rattle.rules.proofs.Soundness.{never_marked_down_lem}
 use Rattle.table.specs.Meaning.{held}
 use Rattle.table.specs.declared.task_table.TaskTable.{TaskTable}
@@ -14,8 +14,8 @@ use Rattle.marker.specs.Answers.{tallied, unconfirmed}
 use Rattle.marker.specs.Shows.{Shows as MarkerShows, Answered as MarkerAnswered}
 use Rattle.key.specs.declared.keys.Key.{Key}
 use Rattle.key.specs.Tally.{how_many, tally_after}
-use Rattle.key.specs.Led.{History, Led}
-use Rattle.key.specs.Keys.{Opened, Followed, Answered, task_of}
+use Rattle.key.specs.Led.{Led}
+use Rattle.key.specs.Keys.{Opened, Answered, task_of}
 
 -- one answer more
 how_many_more : (rs : List Answer) (r : Answer) → how_many (rs ++ r ∷ []) ≡ how_many rs + cond (unconfirmed r) 1 0

@@ -4,15 +4,14 @@ use lib.Seq.{take-append-le}
 use Rattle.std.proofs.lemmas.List.{take_more}
 use Rattle.std.proofs.lemmas.Bool.{cases_lt}
 use Rattle.task.specs.Task.{Task, Lawful}
-use Rattle.reach.specs.Relaxed.{GoalInReach}
 use Rattle.rules.specs.declared.calls.Call.{Call}
 use Rattle.rules.specs.declared.calls.Answer.{Answer}
-use Rattle.rules.specs.Machine.{Machine, Turn, Session, Session.open_empty, Session.and_then, opened}
+use Rattle.rules.specs.Machine.{Machine, Session, Session.open_empty, Session.and_then, opened}
 use Rattle.rules.proofs.Soundness.{never_marked_down_lem}
 use Rattle.key.specs.declared.keys.Key.{Key}
 use Rattle.key.specs.Keys.{Shows, Opened, Answered, task_of, tally_of}
 use Rattle.key.specs.Tally.{tally_after}
-use Rattle.key.specs.Replayed.{Marks, Replayed}
+use Rattle.key.specs.Replayed.{Replayed}
 use Rattle.key.proofs.Leading.{tally_more}
 
 -- each call has an answer

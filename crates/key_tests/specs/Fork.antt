@@ -1,5 +1,5 @@
 -- A small task for the tests: one variable with the values 0 to 5, from 0 to 4 by two ways round that meet at 3, and a dead end at 5.
-use Rattle.std.specs.Prelude.{◌≡◌, ℕ, zero, suc, ◌<◌, Bool, true, false, cond, ◌&&◌, List, [], ◌∷◌, Some, None, nat_lt, slice_index, refl}
+use Rattle.std.specs.Prelude.{◌≡◌, ℕ, zero, suc, ◌<◌, Bool, true, false, cond, ◌&&◌, [], ◌∷◌, Some, None, nat_lt, slice_index, refl}
 use Rattle.std.proofs.Common.{arith}
 use Rattle.std.proofs.lemmas.Bool.{and_parts, and_left, and_right, cond-false, cond-true, ltb-true, le-ltb, lt-ltb}
 use Rattle.task.specs.Task.{Task, Lawful}

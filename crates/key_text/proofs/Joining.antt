@@ -1,13 +1,13 @@
 -- A line behind a text.
-use Rattle.std.proofs.Common.{◌≡◌, ℕ, ◌+◌, ◌≤◌, cond, List, [], ◌++◌, length, take, drop, is_ok, IfOk, Ok, Err, Result, sym, refl, ap, ◌∙◌, subst, arith, length-append, length-take-le, take_at}
+use Rattle.std.proofs.Common.{◌≡◌, ℕ, ◌+◌, ◌≤◌, cond, List, ◌++◌, length, take, drop, is_ok, IfOk, Ok, Err, Result, sym, ap, ◌∙◌, subst, arith, length-append, take_at}
 use Rattle.task.specs.Task.{Task}
 use Rattle.rules.specs.Machine.{Machine}
 use Rattle.lines.specs.declared.line.Line.{Line}
 use Rattle.lines.specs.Text.{line_text}
 use Rattle.key_text.specs.declared.cursor.Cursor.{Cursor}
-use Rattle.listing.specs.Listing.{LineAt, LineCount}
+use Rattle.listing.specs.Listing.{LineAt}
 use Rattle.key_text.specs.Cursors.{Stands}
-use Rattle.key_text.specs.Joined.{FirstLines, FirstLines.no_line, FirstLines.and_line, KeyText}
+use Rattle.key_text.specs.Joined.{FirstLines, FirstLines.and_line}
 
 -- a text in front of a list is no longer than the whole
 pub front_fits : (before text left : List ℕ) (n : ℕ) → n ≡ length text → left ≡ text ++ drop n before → n ≤ length left

@@ -1,8 +1,7 @@
 -- From number to number, and from line to line.
-use Rattle.std.proofs.Common.{◌≡◌, ℕ, zero, suc, ◌+◌, ◌-◌, ◌*◌, ◌/◌, ◌%◌, ◌<◌, ◌≤◌, ◌⊎◌, sym, refl, ap, ◌∙◌, subst, inl, inr, arith}
+use Rattle.std.proofs.Common.{◌≡◌, ℕ, zero, suc, ◌+◌, ◌-◌, ◌/◌, ◌%◌, ◌<◌, ◌≤◌, sym, refl, ◌∙◌, subst, inl, inr, arith}
 use Rattle.std.proofs.lemmas.Bool.{cases_eq}
 use Rattle.task.specs.Task.{Task, facts}
-use Rattle.reach.specs.declared.measure.AtLevel.{AtLevel}
 use Rattle.reach.specs.Built.{LevelsBuilt}
 use Rattle.rules.specs.Machine.{Machine, Count, Count.none, Lowest}
 use Rattle.judging.proofs.Sums.{count_hit, count_miss}

@@ -1,5 +1,5 @@
 -- What an ordering does to the machine that a marker shows.
-use Rattle.std.proofs.Common.{◌≡◌, ℕ, ◌+◌, ◌*◌, ◌<◌, ◌≤◌, Bool, true, false, List, length, get_or, set, None, vec_items, vec_len, sym, refl, ap, ◌∙◌, subst, arith, MatchOption}
+use Rattle.std.proofs.Common.{◌≡◌, ℕ, ◌<◌, ◌≤◌, true, false, length, get_or, set, None, vec_items, sym, refl, ap, ◌∙◌, subst, arith, MatchOption}
 use Rattle.task.specs.Task.{Task, Fact, Start, Numbered, facts}
 use Rattle.task.specs.Facts.{Exactly}
 use Rattle.task.proofs.Numbers.{numbered_below}

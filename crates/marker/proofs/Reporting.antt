@@ -1,7 +1,7 @@
 -- What a report says of the machine that a marker shows.
-use Rattle.std.proofs.Common.{◌≡◌, ℕ, ◌<◌, true, false, ◌⊎◌, length, get_or, None, sym, refl, ap, ◌∙◌, subst, inl, inr}
+use Rattle.std.proofs.Common.{◌≡◌, ℕ, ◌<◌, true, false, length, get_or, None, sym, ◌∙◌, subst, inl, inr}
 use Rattle.std.proofs.lemmas.Bool.{cases_Bool, both_ways}
-use Rattle.task.specs.Task.{Task, Fact, Goal, Numbered, facts}
+use Rattle.task.specs.Task.{Task, Fact, Numbered, facts}
 use Rattle.task.specs.Paths.{Holds, restarted}
 use Rattle.task.proofs.Numbers.{numbered}
 use Rattle.reach.specs.Relaxed.{GoalInReach}

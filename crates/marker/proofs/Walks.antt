@@ -1,12 +1,12 @@
 -- What `begin` and `step` do to the machine that a marker shows.
-use Rattle.std.proofs.Common.{◌≡◌, ℕ, zero, suc, ◌+◌, ◌<◌, ◌≤◌, Bool, true, false, ◌⊎◌, List, [], ◌∷◌, ◌++◌, length, get_or, take, replicate, None, vec_items, Decides, sym, refl, ap, ◌∙◌, subst, inl, inr, ⊎_elim, zero-le, arith, length-append, MatchOption}
+use Rattle.std.proofs.Common.{◌≡◌, ℕ, zero, suc, ◌+◌, ◌<◌, ◌≤◌, Bool, true, false, List, [], ◌∷◌, ◌++◌, get_or, replicate, None, vec_items, Decides, sym, refl, ap, ◌∙◌, subst, inl, inr, zero-le, arith, length-append, MatchOption}
 use mathlib.Core.Path.{fun_ext}
 use lib.ListN.{length-replicate}
 use lib.Seq.{take-append-le}
 use Rattle.std.proofs.lemmas.List.{get_or-replicate, get_or_past}
 use Rattle.std.proofs.lemmas.Bool.{both_ways, cases_lt}
 use Rattle.task.specs.Task.{Task, Fact, Lawful, Numbered, Gives}
-use Rattle.task.specs.Paths.{State, Holds, Visits, Achieved, Allowed, given_or, after, reached, state_at}
+use Rattle.task.specs.Paths.{State, Holds, Visits, Achieved, given_or, after, reached, state_at}
 use Rattle.task.proofs.Inside.{give_var}
 use Rattle.task.proofs.Running.{reached_++}
 use Rattle.task.proofs.Visiting.{visits_at_end, visits_or_achieved}

@@ -1,5 +1,5 @@
 -- A marker shows a machine, and what a call on it is answered.
-use Rattle.std.specs.Prelude.{◌≡◌, ℕ, ◌+◌, ◌*◌, ◌<◌, ◌≤◌, true, false, ◌⊎◌, length, vec_items, Decides, MatchOption, slice_index, slice_index_or}
+use Rattle.std.specs.Prelude.{◌≡◌, ℕ, ◌+◌, ◌*◌, ◌<◌, ◌≤◌, false, ◌⊎◌, length, vec_items, Decides, MatchOption, slice_index, slice_index_or}
 use Rattle.task.specs.Task.{Task, Fact, Numbered}
 use Rattle.task.specs.Paths.{Visits}
 use Rattle.reach.specs.Built.{ReachBuilt}

@@ -6,6 +6,7 @@ mod tests {
     use paper::paper::Paper;
     use records::fault::FaultLine;
     use std::alloc::AllocError;
+    use std::process::Abort;
     use std::test::*;
     use task::task_source::TaskSource;
 
@@ -22,7 +23,7 @@ mod tests {
         }
     }
 
-    fn verdict(rt: &HostRuntime, bytes: &[u8]) -> Verdict {
+    fn verdict(rt: &impl AllocGlobal, bytes: &[u8]) -> Verdict {
         match Paper::read(rt.alloc(), bytes) {
             Ok(_) => READ,
             Err(fault) => match fault.line() {
@@ -34,14 +35,14 @@ mod tests {
 
     // Each record, put after the same records, gets its verdict.
     fn check_after(
-        rt: &HostRuntime,
+        rt: &(impl Abort + AllocGlobal),
         before: &[u8],
         cases: &[([u8; 4], Verdict)],
     ) -> Result<(), Fail> {
         for case in cases {
             let mut bytes = before.to_vec(rt.alloc())?;
             bytes.extend_from_slice(&case.0)?;
-            assert_eq!(verdict(rt, bytes.as_slice()), case.1);
+            assert_eq!(rt; verdict(rt, bytes.as_slice()), case.1);
         }
         Ok(())
     }

@@ -5,6 +5,7 @@
 mod tests {
     use sheet::sheet::Sheet;
     use std::alloc::AllocError;
+    use std::process::Abort;
     use std::test::*;
     use task::task_source::TaskSource;
 
@@ -13,7 +14,7 @@ mod tests {
 
     const READ: Verdict = (0, 0, 0);
 
-    fn verdict(rt: &HostRuntime, bytes: &[u8]) -> Verdict {
+    fn verdict(rt: &impl AllocGlobal, bytes: &[u8]) -> Verdict {
         match Sheet::read(rt.alloc(), bytes) {
             Ok(_) => READ,
             Err(fault) => match fault.line() {
@@ -25,14 +26,14 @@ mod tests {
 
     // Each record, put after the same records, gets its verdict.
     fn check_after(
-        rt: &HostRuntime,
+        rt: &(impl Abort + AllocGlobal),
         before: &[u8],
         cases: &[([u8; 4], Verdict)],
     ) -> Result<(), Fail> {
         for case in cases {
             let mut bytes = before.to_vec(rt.alloc())?;
             bytes.extend_from_slice(&case.0)?;
-            assert_eq!(verdict(rt, bytes.as_slice()), case.1);
+            assert_eq!(rt; verdict(rt, bytes.as_slice()), case.1);
         }
         Ok(())
     }
@@ -288,7 +289,7 @@ mod tests {
 
     // An action of so many adds and deletes, and one more record.
     fn after_effects(
-        rt: &HostRuntime,
+        rt: &(impl Abort + AllocGlobal),
         adds: u8,
         deletes: u8,
         cases: &[([u8; 4], Verdict)],

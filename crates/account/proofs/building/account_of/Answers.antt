@@ -1,4 +1,4 @@
-use Rattle.std.proofs.Common.{◌≡◌, refl, ap, MatchOption}
+use Rattle.std.proofs.Common.{refl}
 use Rattle.account.proofs.Entries.{never_short}
 use Rattle.account.proofs.building.account_of.Goals as goal
 

@@ -1,4 +1,4 @@
-use Rattle.std.proofs.Common.{◌≡◌, ◌<◌, arith, rules}
+use Rattle.std.proofs.Common.{◌<◌, arith}
 use Rattle.task.proofs.Inside.{present_in}
 use Rattle.judging.proofs.achievers.first_lacking.Goals as goal
 

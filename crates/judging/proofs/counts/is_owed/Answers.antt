@@ -1,4 +1,4 @@
-use Rattle.std.proofs.Common.{◌≡◌, sym, refl, ◌∙◌, inl, inr, arith}
+use Rattle.std.proofs.Common.{refl, inl, arith}
 use Rattle.task.proofs.Numbers.{numbered_below}
 use Rattle.judging.proofs.counts.is_owed.Goals as goal
 

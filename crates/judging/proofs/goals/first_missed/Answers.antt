@@ -1,10 +1,7 @@
-use Rattle.std.proofs.Common.{◌≡◌, ◌+◌, ◌<◌, ◌≤◌, true, false, length, get_or, Some, sym, refl, ap, ◌∙◌, subst, arith}
-use Rattle.std.proofs.lemmas.List.{get_or_read}
-use Rattle.std.proofs.lemmas.Bool.{both_ways}
-use Rattle.task.specs.Task.{Numbered, fact, offset}
+use Rattle.std.proofs.Common.{◌≡◌, ◌+◌, ◌<◌, sym, ◌∙◌, subst, arith}
+use Rattle.task.specs.Task.{fact}
 use Rattle.task.proofs.Numbers.{offset_more}
 use Rattle.task.proofs.Options.{no_some, some_same}
-use Rattle.rules.specs.Machine.{Lowest, MissedGoal}
 use Rattle.judging.proofs.Places.{value_place, size_place}
 use Rattle.judging.proofs.Reached.{GoalsBelow, goals_more, goal_in_reach, goal_near, goal_far}
 use Rattle.reach.specs.Relaxed.{Reach}

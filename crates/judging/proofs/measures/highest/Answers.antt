@@ -1,8 +1,7 @@
-use Rattle.std.proofs.Common.{◌≡◌, ◌+◌, ◌<◌, ◌≤◌, max, length, get_or, sym, refl, ap, ◌∙◌, subst, arith}
+use Rattle.std.proofs.Common.{◌≡◌, ◌+◌, ◌<◌, sym, refl, ◌∙◌, subst, arith}
 use Rattle.task.specs.Task.{fact}
 use Rattle.task.proofs.Numbers.{offset_more}
 use Rattle.reach.specs.Built.{LevelIs}
-use Rattle.reach.specs.Relaxed.{Level}
 use Rattle.judging.proofs.Places.{value_place, size_place}
 use Rattle.judging.proofs.Levels.{LevelBelow, level_start, level_none, level_some, level_near, level_told, goal_out}
 use Rattle.judging.proofs.measures.highest.Given as given

@@ -1,4 +1,4 @@
-use Rattle.std.proofs.Common.{◌≡◌, length, get_or}
+use Rattle.std.proofs.Common.{◌≡◌, length}
 use Rattle.task.specs.Paths.{after}
 use Rattle.judging.specs.Position.{of_list}
 use Rattle.judging.proofs.Places.{Split}

@@ -1,4 +1,4 @@
-use Rattle.std.proofs.Common.{◌≡◌, ℕ, ◌+◌, ◌<◌, sym, refl, ap, ◌∙◌, subst, arith}
+use Rattle.std.proofs.Common.{◌≡◌, ◌<◌, sym, ◌∙◌, subst, arith}
 use Rattle.task.proofs.Numbers.{offset_more}
 use Rattle.task.proofs.Options.{no_some, some_same}
 use Rattle.judging.specs.Position.{of_list}

@@ -1,8 +1,7 @@
-use Rattle.std.proofs.Common.{◌≡◌, ℕ, ◌+◌, ◌<◌, ◌≤◌, length, sym, refl, ◌∙◌, subst, arith}
+use Rattle.std.proofs.Common.{◌≡◌, ◌+◌, ◌<◌, ◌≤◌, length, sym, subst, arith}
 use Rattle.task.proofs.Numbers.{offset_more}
 use Rattle.judging.specs.Position.{Marked, of_list}
 use Rattle.judging.proofs.Places.{value_place, size_place, marked_set, marked_keep}
-use Rattle.judging.proofs.position.mark_facts.Given as given
 use Rattle.judging.proofs.position.mark_facts.Goals as goal
 use Rattle.judging.proofs.position.mark_facts.Goals.{then-value-size, else-value-size}
 

@@ -1,4 +1,4 @@
-use Rattle.std.proofs.Common.{◌≡◌, max, sym, refl, ap, ◌∙◌, subst}
+use Rattle.std.proofs.Common.{max, ap, ◌∙◌}
 use Rattle.judging.proofs.remainders.remainder.Goals as goal
 
 pub returns-in_default : goal.returns-in_default

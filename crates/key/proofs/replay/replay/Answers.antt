@@ -1,4 +1,3 @@
-use Rattle.std.proofs.Common.{◌≡◌, sym, refl, ap, ◌∙◌, subst}
 use Rattle.std.proofs.lemmas.List.{get_or_default}
 use Rattle.rules.specs.declared.calls.Call.TheVariants.{Propose}
 use Rattle.key.proofs.Prefixes.{going_none, going_on, replayed}

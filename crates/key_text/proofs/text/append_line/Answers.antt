@@ -1,4 +1,4 @@
-use Rattle.std.proofs.Common.{◌≡◌, ◌≤◌, length, take, vec_items, sym, arith, length-take-le}
+use Rattle.std.proofs.Common.{take, vec_items, sym, length-take-le}
 use Rattle.lines.specs.Text.{line_text}
 use Rattle.key_text.proofs.Joining.{front_fits, front_is, appended}
 use Rattle.key_text.proofs.text.append_line.Goals as goal

@@ -1,4 +1,4 @@
-use Rattle.std.proofs.Common.{◌≡◌, vec_items, sym, subst}
+use Rattle.std.proofs.Common.{vec_items, sym, subst}
 use Rattle.key.specs.Keys.{task_of}
 use Rattle.key_text.specs.Joined.{FirstLines, FirstLines.no_line}
 use Rattle.key_text.proofs.Joining.{one_more}

@@ -1,4 +1,4 @@
-use Rattle.std.proofs.Common.{◌≡◌, length, sym, refl, ap, subst, arith, rules}
+use Rattle.std.proofs.Common.{length, sym, refl, ap, subst, arith, rules}
 use Rattle.std.proofs.lemmas.Fmt.{decimal_digit}
 use Rattle.lines.specs.Writing.{Written}
 use Rattle.lines.proofs.Texts.{length_more, written_number}

@@ -1,4 +1,4 @@
-use Rattle.std.proofs.Common.{◌≡◌, ◌<◌, sym, refl, ap, ◌∙◌, subst, arith}
+use Rattle.std.proofs.Common.{◌<◌, sym, refl, subst, arith}
 use Rattle.task.specs.Task.{Task, Numbered, facts}
 use Rattle.key.specs.Keys.{task_of}
 use Rattle.table.specs.Meaning.{held}

@@ -1,4 +1,4 @@
-use Rattle.std.proofs.Common.{◌≡◌, ◌<◌, length, refl, arith}
+use Rattle.std.proofs.Common.{◌<◌, length, refl, arith}
 use Rattle.task.specs.Single.{is_lawful}
 use Rattle.table.specs.Meaning.{held}
 use Rattle.listing.proofs.Lining.{key_lawful, never_short, level_read}

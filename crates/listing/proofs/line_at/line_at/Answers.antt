@@ -1,4 +1,4 @@
-use Rattle.std.proofs.Common.{◌≡◌, refl, arith}
+use Rattle.std.proofs.Common.{refl, arith}
 use Rattle.listing.proofs.Lining.{key_lawful, line_of_fact, line_of_pair}
 use Rattle.listing.proofs.line_at.line_at.Goals as goal
 

@@ -1,4 +1,4 @@
-use Rattle.std.proofs.Common.{◌≡◌, refl, arith}
+use Rattle.std.proofs.Common.{refl, arith}
 use Rattle.lines.specs.Text.{line_text}
 use Rattle.listing.proofs.Lining.{front_fits}
 use Rattle.listing.proofs.list.list_line.Goals as goal

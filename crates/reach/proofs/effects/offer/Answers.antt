@@ -2,7 +2,6 @@ use Rattle.std.proofs.Common.{sym, ◌∙◌, arith}
 use Rattle.task.proofs.Numbers.{offset_more}
 use Rattle.task.proofs.Numbers.{give_number, size_number, few_numbers}
 use Rattle.reach.proofs.Steps.{offered_some, offered_none}
-use Rattle.reach.proofs.effects.offer.Given as given
 use Rattle.reach.proofs.effects.offer.Goals as goal
 use Rattle.reach.proofs.effects.offer.Goals.{in-Some, in_default}
 

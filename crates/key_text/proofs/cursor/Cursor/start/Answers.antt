@@ -1,4 +1,4 @@
-use Rattle.std.proofs.Common.{◌≡◌, refl, subst}
+use Rattle.std.proofs.Common.{refl, subst}
 use Rattle.task.specs.Task.{Task}
 use Rattle.task.specs.Single.{is_lawful}
 use Rattle.table.specs.Meaning.{held}

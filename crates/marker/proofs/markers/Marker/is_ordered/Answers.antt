@@ -1,4 +1,4 @@
-use Rattle.std.proofs.Common.{◌≡◌, false, get_or, vec_items, sym, refl, ap, ◌∙◌, inl, inr}
+use Rattle.std.proofs.Common.{false, get_or, vec_items, sym, ap, ◌∙◌, inl, inr}
 use Rattle.marker.proofs.Writes.{read}
 use Rattle.marker.proofs.markers.Marker.is_ordered.Goals as goal
 

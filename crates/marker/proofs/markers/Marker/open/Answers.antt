@@ -1,4 +1,4 @@
-use Rattle.std.proofs.Common.{◌≡◌, refl}
+use Rattle.std.proofs.Common.{refl}
 use Rattle.marker.proofs.Walks.{shows_opened}
 use Rattle.marker.proofs.markers.Marker.open.Goals as goal
 

@@ -1,4 +1,4 @@
-use Rattle.std.proofs.Common.{◌≡◌, sym, refl, ◌∙◌, arith}
+use Rattle.std.proofs.Common.{sym, refl, ◌∙◌, arith}
 use Rattle.task.proofs.Numbers.{numbered_below}
 use Rattle.marker.proofs.Turns.{no_number, missed_turn, next_as}
 use Rattle.marker.proofs.Writes.{room, read}

@@ -1,4 +1,4 @@
-use Rattle.std.proofs.Common.{◌≡◌, sym, refl, ◌∙◌, arith, rules}
+use Rattle.std.proofs.Common.{refl, arith, rules}
 use Rattle.std.proofs.lemmas.Bool.{both_ways}
 use Rattle.task.proofs.Numbers.{numbered_below}
 use Rattle.marker.proofs.Turns.{no_number, missed_turn, next_as, propose_past, propose_there, propose_out, propose_taken}

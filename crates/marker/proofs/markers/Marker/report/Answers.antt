@@ -1,4 +1,4 @@
-use Rattle.std.proofs.Common.{◌≡◌, refl}
+use Rattle.std.proofs.Common.{refl}
 use Rattle.marker.proofs.Turns.{missed_turn}
 use Rattle.marker.proofs.Reporting.{report_turn}
 use Rattle.marker.proofs.markers.Marker.report.Goals as goal

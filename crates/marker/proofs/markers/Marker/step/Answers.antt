@@ -1,4 +1,4 @@
-use Rattle.std.proofs.Common.{◌≡◌, sym, refl, ◌∙◌}
+use Rattle.std.proofs.Common.{sym, refl, ◌∙◌}
 use Rattle.marker.proofs.Turns.{missed_turn, next_as}
 use Rattle.marker.proofs.Walks.{step_none, step_many, step_barred, step_turn}
 use Rattle.marker.proofs.markers.Marker.step.Goals as goal

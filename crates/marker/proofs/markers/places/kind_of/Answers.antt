@@ -1,4 +1,4 @@
-use Rattle.std.proofs.Common.{◌≡◌, sym, subst}
+use Rattle.std.proofs.Common.{sym, subst}
 use Rattle.task.proofs.Lookups.{exactly_some, exactly_none}
 use Rattle.rules.specs.declared.calls.Kind.TheVariants.{Greedy, Necessary}
 use Rattle.rules.specs.Machine.{KindNumber, KindNumber.one_greedy, KindNumber.two_necessary}

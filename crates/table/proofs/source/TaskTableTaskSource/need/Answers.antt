@@ -1,4 +1,4 @@
-use Rattle.std.proofs.Common.{◌≡◌, arith}
+use Rattle.std.proofs.Common.{arith}
 use Rattle.task.specs.Single.{is_lawful}
 use Rattle.table.specs.Meaning.{held}
 use Rattle.table.proofs.source.TaskTableTaskSource.need.Goals as goal
