@@ -3,7 +3,7 @@ use Rattle.std.proofs.Common.{◌≡◌, ℕ, ◌+◌, ◌-◌, ◌*◌, ◌^◌
 use lib.Seq.{take-length}
 use Rattle.std.proofs.lemmas.List.Sums.{fold_more}
 use Rattle.std.proofs.ByRecursion.{All-get_or}
-use Rattle.std.specs.List.{AllByRecursion as All}
+use Rattle.std.specs.List.{AllByRecursion}
 use Rattle.task.specs.Facts.{Exactly}
 use Rattle.task.proofs.Lookups.{exactly_none, exactly_some}
 use Rattle.sitting.specs.Lines.{Digit, Writes, digits_value}
@@ -23,7 +23,7 @@ number_more w i number product digit sum h n p d s =
     ∙ ap (λ x. min x (2 ^ 64 - 1)) (ap (λ x. digits_value (take i w) * 10 + x) d ∙ sym (value_more w i h))
 
 -- after the last digit
-pub writes_whole : (w : List ℕ) (i n : ℕ) → i ≡ length w → All Digit (take i w) → n ≡ min (digits_value (take i w)) (2 ^ 64 - 1) → Exactly (Writes w) (Some n)
+pub writes_whole : (w : List ℕ) (i n : ℕ) → i ≡ length w → AllByRecursion Digit (take i w) → n ≡ min (digits_value (take i w)) (2 ^ 64 - 1) → Exactly (Writes w) (Some n)
 writes_whole w i n e digits is =
     exactly_some (λ x y p q. p.1 ∙ sym q.1) n (subst (λ v. Writes v n) (ap (λ k. take k w) e ∙ take-length w) (digits, is))
 

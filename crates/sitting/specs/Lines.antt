@@ -1,6 +1,6 @@
 -- The words of a line, and the numbers that they write.
 use Rattle.std.specs.Prelude.{◌≡◌, ℕ, ◌+◌, ◌-◌, ◌*◌, ◌^◌, ◌<◌, ◌≤◌, min, Bool, true, false, not, ◌||◌, List, [], ◌∷◌, ◌++◌, length, fold, ◌==◌}
-use Rattle.std.specs.List.{AllByRecursion as All}
+use Rattle.std.specs.List.{AllByRecursion}
 
 -- spaces and carriage returns part words
 abbrev pub blank? : ℕ → Bool
@@ -13,11 +13,11 @@ of_kind false c = not (blank? c)
 
 -- nothing but what parts words
 abbrev pub Blanks : List ℕ → Type 0
-Blanks bytes = All (λ c. of_kind true c ≡ true) bytes
+Blanks bytes = AllByRecursion (λ c. of_kind true c ≡ true) bytes
 
 -- a word has a byte at least, and none that parts words
 abbrev pub Word : List ℕ → Type 0
-Word w = (0 < length w) × All (λ c. of_kind false c ≡ true) w
+Word w = (0 < length w) × AllByRecursion (λ c. of_kind false c ≡ true) w
 
 -- a word before it ends there: nothing follows, or a byte that parts words
 abbrev pub Apart : List ℕ → Type 0
@@ -47,7 +47,7 @@ digits_value w = fold (λ n c. n * 10 + (c - 48)) 0 w
 
 -- a word of digits writes n, where a number above the largest of 64 bits counts as that
 abbrev pub Writes : List ℕ → ℕ → Type 0
-Writes w n = All Digit w × (n ≡ min (digits_value w) (2 ^ 64 - 1))
+Writes w n = AllByRecursion Digit w × (n ≡ min (digits_value w) (2 ^ 64 - 1))
 
 -- the words write the numbers, one each
 abbrev pub Written : List (List ℕ) → List ℕ → Type 0

@@ -1,7 +1,7 @@
 use Rattle.std.proofs.Common.{◌≡◌, ◌-◌, ◌^◌, min, take}
-use Rattle.std.specs.List.{AllByRecursion as All}
+use Rattle.std.specs.List.{AllByRecursion}
 use Rattle.sitting.specs.Lines.{Digit, digits_value}
 use Rattle.sitting.proofs.numbers.parse_number.Given as goal
 
 abbrev pub invariant-loop-byte : goal.invariant-loop-byte
-invariant-loop-byte l = All Digit (take l.byte-index l.word) × (l.number ≡ min (digits_value (take l.byte-index l.word)) (2 ^ 64 - 1))
+invariant-loop-byte l = AllByRecursion Digit (take l.byte-index l.word) × (l.number ≡ min (digits_value (take l.byte-index l.word)) (2 ^ 64 - 1))
