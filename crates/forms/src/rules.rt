@@ -1,6 +1,6 @@
 // The order of the kinds, the limits, the ranges and repeated variables.
 ghost use Rattle.std.specs.Prelude.{◌≡◌, ◌*◌, ◌≤◌, true, length, sum, OnOk};
-ghost use Rattle.lists.specs.Puts.{put as with-entry};
+ghost use Rattle.lists.specs.Puts.{put as with_entry};
 ghost use Rattle.lists.specs.View.{lists_of};
 ghost use Rattle.forms.specs.Rules.{in_place, full, own_list_lem, repeated, wide_first, wide_second};
 
@@ -126,7 +126,7 @@ pub(crate) fn put(
     entry: Entry,
 ) -> Result<(), AllocError>
     requires { in_place kind (lists_of table.old) ≡ true }
-    ensures { OnOk result (lists_of table.new ≡ with-entry kind entry.first entry.second (lists_of table.old)) }
+    ensures { OnOk result (lists_of table.new ≡ with_entry kind entry.first entry.second (lists_of table.old)) }
 {
     match kind {
         Kind::Variable => table.add_variable(entry.first, entry.second),

@@ -4,7 +4,7 @@ use Rattle.std.proofs.lemmas.List.Elements.{filter-append}
 use Rattle.records.specs.declared.record.Record.{Record}
 use Rattle.records.specs.Kinds.{of_kind, front, parts}
 
--- what of-kind k keeps of one more record
+-- what of_kind k keeps of one more record
 pub of_kind_push : (k : ℕ) (rs : List Record) (r : Record) → of_kind k (rs ++ r ∷ []) ≡ of_kind k rs ++ cond (eqb r.kind k) (r ∷ []) []
 of_kind_push k rs r = filter-append (λ (r : Record). eqb r.kind k) rs (r ∷ [])
 
