@@ -2,7 +2,7 @@
 ghost use Rattle.reach.specs.Built.{LayersBuilt, TooShort};
 ghost use Rattle.reach.specs.Layering.{Closed, layer, next as after};
 ghost use Rattle.reach.specs.Working.{acted};
-ghost use Rattle.std.specs.Prelude.{◌≡◌, length, Decides, MatchOption};
+ghost use Rattle.std.specs.Prelude.{◌≡◌, length, MatchOption};
 ghost use Rattle.task.specs.Task.{facts};
 
 use crate::conditions::join_conditions;
@@ -34,19 +34,6 @@ fn next_layer<S: TaskSource, M: Measure>(source: &S, values: &[M], next: &mut [M
     act(source, values, next);
 }
 
-// Whether two layers are the same.
-fn same_layer<M: Measure>(values: &[M], others: &[M]) -> bool
-    requires { length values.now ≡ length others.now }
-    ensures { Decides result (values.now ≡ others.now) }
-{
-    for i in 0..values.len() {
-        if !values[i].is_same(others[i]) {
-            return false;
-        }
-    }
-    true
-}
-
 // Fills both tables with the layer that equals its next, and says how many layers there are before it.
 fn run_layers<S: TaskSource, M: Measure>(source: &S, values: &mut [M], scratch: &mut [M]) -> usize
     requires values { length values.old ≡ facts (S.task source.now) }
@@ -59,7 +46,7 @@ fn run_layers<S: TaskSource, M: Measure>(source: &S, values: &mut [M], scratch: 
     let mut layers = 0;
     loop {
         next_layer(source, values, scratch);
-        if same_layer(values, scratch) {
+        if &*values == &*scratch {
             return layers;
         }
         values.copy_from_slice(scratch);
