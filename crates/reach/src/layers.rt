@@ -12,6 +12,8 @@ use crate::start::first_layer;
 use task::facts::count_facts;
 use task::task_source::TaskSource;
 
+// The length of a table stands in each contract here: a struct with that fact would be made anew for each slice that is lent.
+
 // Offers what each present action makes of `values` to its effects.
 fn act<S: TaskSource, M: Measure>(source: &S, values: &[M], next: &mut [M])
     requires { (length values.now ≡ facts (S.task source.now)) × (next.old ≡ values.now) }
@@ -43,6 +45,7 @@ fn run_layers<S: TaskSource, M: Measure>(source: &S, values: &mut [M], scratch: 
     ensures closed { Closed M.ops (S.task source.now) result }
 {
     first_layer(source, values);
+    // A count and no index: the loop ends where a layer stays, which no range says beforehand.
     let mut layers = 0;
     loop {
         next_layer(source, values, scratch);

@@ -1,6 +1,7 @@
 -- What the searches for the next fact or action have passed, and what they count.
 use Rattle.std.proofs.Common.{◌≡◌, ℕ, zero, suc, ◌+◌, ◌-◌, ◌<◌, ◌≤◌, min, Bool, true, cond, is_some, [], ◌∷◌, ◌++◌, length, length-append, filter, map, sum, Some, None, Option, MatchOption, IfSome, IsSomeAnd, IsTrue, option_map, sym, refl, ap, ◌∙◌, subst, inl, inr, add-one, arith}
 use Rattle.std.proofs.lemmas.Bool.{cases_eq, cases_lt}
+use Rattle.std.proofs.lemmas.Iterator.Adapters.{option_map_id}
 use Rattle.std.proofs.lemmas.List.{map-id}
 use Rattle.std.proofs.lemmas.List.FromFn.{filter_of_map_range_with_len_more, sum_by-map-range_with_len_more}
 use Rattle.std.specs.List.{range_with_len}
@@ -64,17 +65,13 @@ pub next_action : {P : ℕ → Type 0} (a end : ℕ) (r : Option ℕ) → MatchO
 next_action a end None none out = λ k l p. elim (cases_lt k end) [ inl b ↦ none k l b p | inr g ↦ out k g p ]
 next_action a end (Some i) found out = record { later = found.0; holds = found.2; skipped = found.3 }
 
-itself : (o : Option ℕ) → option_map (λ y. y) o ≡ o
-itself (Some x) = refl
-itself None = refl
-
 -- what a search over the variables from v on answers: `at k` is the k-th that it came to, and its closure answered there that the row has no fact, or one
 module _ (row : ℕ → Option ℕ) (v end n : ℕ) (whole : Bool) (ends : whole ≡ true → n ≡ end - v) (at : ℕ → Option ℕ) (reads : (k : ℕ) → k < n → option_map (λ y. y) (at k) ≡ Some (v + k)) (No : ℕ → Type 0) (Yes : ℕ → Fact → Type 0) (Keeps : Type 0) where
   abbrev ToldNo : Type 0
   ToldNo = (w : ℕ) → No w → row w ≡ None
 
   came : (w : ℕ) → v ≤ w → w < v + n → at (w - v) ≡ Some w
-  came w low high = sym (itself (at (w - v))) ∙ reads (w - v) (omega arith) ∙ ap Some (omega arith)
+  came w low high = sym (option_map_id (at (w - v))) ∙ reads (w - v) (omega arith) ∙ ap Some (omega arith)
 
   passed : ToldNo → (w : ℕ) (o : Option ℕ) → o ≡ Some w → IfSome o No → row w ≡ None
   passed missed w None e h = absurd (no_some w e)
@@ -91,7 +88,7 @@ module _ (row : ℕ → Option ℕ) (v end n : ℕ) (whole : Bool) (ends : whole
       found : (o : Option ℕ) → o ≡ at i → IsSomeAnd o (λ w. Yes w y) → NextFact row v y
       found None e h = absurd h
       found (Some x) e h =
-          let here : x ≡ v + i = some_same x (v + i) (e ∙ sym (itself (at i)) ∙ reads i below) in
+          let here : x ≡ v + i = some_same x (v + i) (e ∙ sym (option_map_id (at i)) ∙ reads i below) in
           let (on, has) = hit x y h in
           record {
             later = omega arith;

@@ -36,11 +36,12 @@ impl<'a, S: TaskSource> TaskSource for Restarted<'a, S> {
     }
 
     fn start(&self, variable: usize) -> usize {
-        let value = self.state.get(variable).copied().unwrap_or(0);
-        if value >= self.inner.size(variable) {
-            return 0;
-        }
-        value
+        let is_value = |&value: &usize| value < self.inner.size(variable);
+        self.state
+            .get(variable)
+            .copied()
+            .filter(is_value)
+            .unwrap_or(0)
     }
 
     fn goal(&self, variable: usize) -> Option<usize> {
