@@ -31,6 +31,7 @@ pub struct Operator {
 }
 
 // The variables, the goals, and the actions, all in order.
+// It has no model, since a reader of records tests the parts; `lists_of` says what they mean.
 #[derive(Drop)]
 pub struct Table {
     pub variables: Vec<Variable>,
