@@ -7,3 +7,5 @@ pub mod Widths
 pub mod Levels
 pub mod Tables
 pub mod Lent
+pub mod Chains
+pub mod Visits

@@ -39,16 +39,10 @@ fn is_lacking<S: TaskSource>(
 ) -> bool
     ensures { Decides result (LacksIn (S.task source.now) reach.now earlier later action) }
 {
-    if !source.is_present(action) {
-        return false;
-    }
-    if source.effect(action, later.variable) != Some(later.value) {
-        return false;
-    }
-    if source.need(action, earlier.variable) == Some(earlier.value) {
-        return false;
-    }
-    has_conditions(source, reach, action)
+    source.is_present(action)
+        && source.effect(action, later.variable) == Some(later.value)
+        && source.need(action, earlier.variable) != Some(earlier.value)
+        && has_conditions(source, reach, action)
 }
 
 // The lowest such action.
@@ -60,12 +54,7 @@ fn first_lacking<S: TaskSource>(
 ) -> Option<usize>
     ensures { MatchOption result ((a : ℕ) → LacksIn (S.task source.now) reach.now earlier later a → ⊥) (Lowest (LacksIn (S.task source.now) reach.now earlier later)) }
 {
-    for action in 0..source.actions() {
-        if is_lacking(source, reach, earlier, later, action) {
-            return Some(action);
-        }
-    }
-    None
+    (0..source.actions()).find(|action| is_lacking(source, reach, earlier, later, *action))
 }
 
 // The lowest achiever of the later fact that counts for a kind and does not need the earlier fact, by the table of the task's reach.

@@ -14,13 +14,9 @@ fn count_effects<S: TaskSource>(source: &S, action: usize) -> u16
     ensures count { Effects (S.task source.now) action result }
     ensures bound { result ≤ 64 }
 {
-    let mut total = 0;
-    for variable in 0..source.variables() {
-        if source.effect(action, variable).is_some() {
-            total += 1;
-        }
-    }
-    total
+    (0..source.variables())
+        .filter(|variable| source.effect(action, *variable).is_some())
+        .count() as u16
 }
 
 // The most effects of a present action.

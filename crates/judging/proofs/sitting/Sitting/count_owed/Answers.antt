@@ -5,9 +5,8 @@ use Rattle.judging.specs.Counted.{OwedIn}
 use Rattle.judging.proofs.Sums.{count_hit, count_miss}
 use Rattle.judging.proofs.Sums.{count_le}
 use Rattle.task.specs.Task.{facts}
-use Rattle.judging.specs.Position.{of_list}
-use Rattle.judging.proofs.counts.count_owed.Goals as goal
-use Rattle.judging.proofs.counts.count_owed.Goals.{then-is_owed, else-is_owed}
+use Rattle.judging.proofs.sitting.Sitting.count_owed.Goals as goal
+use Rattle.judging.proofs.sitting.Sitting.count_owed.Goals.{then-is_owed, else-is_owed}
 
 pub loop-number-init : goal.loop-number-init
 loop-number-init g c = none
@@ -17,7 +16,7 @@ overflow_add-total g c = omega (arith, count_le c.loop-number.invariant, c.loop-
 
 pub loop-number-preserved : goal.loop-number-preserved
 loop-number-preserved g c =
-    let P = OwedIn (g.S.TaskSource.task c.args.source.now) c.args.held.now c.args.visited.now (of_list c.args.state.now) in
+    let P = OwedIn (g.S.TaskSource.task c.args.source.now) c.args.held.now c.args.self.now in
     let n = c.loop-number.number in
     elim c.if-is_owed.branch [
       | then-is_owed w ↦ subst (Count P (n + 1)) (sym w.total-is) (count_hit c.loop-number.invariant (c.is_owed.ensures.0 w.if-is_owed.true))
@@ -27,7 +26,7 @@ loop-number-preserved g c =
 pub returns : goal.returns
 returns g c =
     let t = g.S.TaskSource.task c.args.source.now in
-    let P = OwedIn t c.args.held.now c.args.visited.now (of_list c.args.state.now) in
+    let P = OwedIn t c.args.held.now c.args.self.now in
     let last : c.loop-number.number ≡ facts t = omega (arith, c.loop-number.auto.number-end, c.loop-number-test.false, c.count_facts-number-end.ensures.value) in
     record {
       count = subst (λ n. Count P n c.loop-number.total) last c.loop-number.invariant;

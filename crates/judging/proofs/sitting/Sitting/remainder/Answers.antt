@@ -1,8 +1,8 @@
 use Rattle.std.proofs.Common.{max, ap, ◌∙◌}
-use Rattle.judging.proofs.remainders.remainder.Goals as goal
+use Rattle.judging.proofs.sitting.Sitting.remainder.Goals as goal
 
 pub returns-in_default : goal.returns-in_default
-returns-in_default g c = rw (c.new-here.ensures.inner, c.new-here.ensures.state) at c.in_default.ensures
+returns-in_default g c = c.in_default.ensures
 
 pub returns : goal.returns
 returns g c = record {
@@ -11,6 +11,6 @@ returns g c = record {
   level = c.in-Some.level;
   owes = c.count_owed-owed.ensures.count;
   most = c.widest-width.ensures.width;
-  goal = rw (c.new-here.ensures.inner, c.new-here.ensures.state) at c.in-Some.ensures;
+  goal = c.in-Some.ensures;
   is = c.max.ensures ∙ ap (max c.in-Some.level) c.quotient_of.ensures;
 }
