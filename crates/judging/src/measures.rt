@@ -1,12 +1,10 @@
 // The most effects of an action, and the level of the goal.
 ghost use Rattle.std.specs.Prelude.{◌≤◌, MatchOption};
 ghost use Rattle.judging.specs.Counted.{GoalAt};
-ghost use Rattle.reach.specs.Built.{LevelsBuilt};
 ghost use Rattle.reach.specs.Relaxed.{GoalInReach};
 ghost use Rattle.rules.specs.Machine.{Effects, Width};
 
-use reach::measure::AtLevel;
-use reach::reach::build_levels;
+use reach::tables::LevelTable;
 use task::task_source::TaskSource;
 
 // How many effects an action has.
@@ -33,31 +31,19 @@ pub fn widest<S: TaskSource>(source: &S) -> u16
     width
 }
 
-// The greatest level of a goal fact in a table of the levels, `None` where one has no level.
-fn highest<S: TaskSource>(source: &S, levels: &[AtLevel; 256]) -> Option<u16>
-    requires { LevelsBuilt (S.task source.now) levels.now }
-    ensures { MatchOption result (GoalInReach (S.task source.now) → ⊥) (GoalAt (S.task source.now)) }
-{
-    let mut highest = 0;
-    let mut offset = 0;
-    for variable in 0..source.variables() {
-        if let Some(value) = source.goal(variable) {
-            let Some(level) = levels[offset + value].layer() else {
-                return None;
-            };
-            highest = level.max(highest);
-        }
-        offset += source.size(variable);
-    }
-    Some(highest)
-}
-
 // The greatest level of a goal fact, 0 without goals: `None` where a goal fact is out of reach.
 pub fn goal_level<S: TaskSource>(source: &S) -> Option<u16>
     ensures { MatchOption result (GoalInReach (S.task source.now) → ⊥) (GoalAt (S.task source.now)) }
 {
-    let mut levels = [AtLevel { level: 0 }; 256];
-    let mut scratch = [AtLevel { level: 0 }; 256];
-    let _layers = build_levels(source, &mut levels, &mut scratch);
-    highest(source, &levels)
+    let levels = LevelTable::of(source);
+    let mut highest = 0;
+    // An index by hand: the running offset saves a second sum for each variable.
+    let mut offset = 0;
+    for variable in 0..source.variables() {
+        if let Some(value) = source.goal(variable) {
+            highest = levels.level(offset + value)?.max(highest);
+        }
+        offset += source.size(variable);
+    }
+    Some(highest)
 }

@@ -51,7 +51,7 @@ impl Position {
     pub fn mark_facts<S: TaskSource>(&self, source: &S, marks: &mut FactSet)
         ensures { Marked (S.task source.now) marks.old (state_of self.now) (S.task source.now).vars marks.new }
     {
-        // The running offset saves a second sum for each variable.
+        // An index by hand: the running offset saves a second sum for each variable.
         let mut offset = 0;
         for variable in 0..source.variables() {
             let size = source.size(variable);
@@ -67,7 +67,7 @@ impl Position {
     pub fn first_unmet<S: TaskSource>(&self, source: &S, action: usize) -> Option<usize>
         ensures { MatchOption result (Met (S.task source.now) (state_of self.now) action) (Lowest (Unmet (S.task source.now) (state_of self.now) action)) }
     {
-        // The running offset saves a second sum for each variable.
+        // An index by hand: the running offset saves a second sum for each variable.
         let mut offset = 0;
         for variable in 0..source.variables() {
             if let Some(value) = source.need(action, variable) {

@@ -29,7 +29,8 @@ impl Sitting {
         if held.contains(number) && !self.visited.contains(number) {
             return true;
         }
-        source.goal(fact.variable) == Some(fact.value) && self.position.value(fact.variable) != fact.value
+        source.goal(fact.variable) == Some(fact.value)
+            && self.position.value(fact.variable) != fact.value
     }
 
     // How many such facts there are.

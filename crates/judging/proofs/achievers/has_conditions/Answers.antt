@@ -7,29 +7,26 @@ use Rattle.judging.proofs.Places.{value_place, size_place}
 use Rattle.judging.proofs.Lacks.{InBelow, in_more, in_all, need_numbered}
 use Rattle.judging.proofs.achievers.has_conditions.Given as given
 use Rattle.judging.proofs.achievers.has_conditions.Goals as goal
-use Rattle.judging.proofs.achievers.has_conditions.Goals.{in-Some+else-not-reach-number, in_default}
+use Rattle.judging.proofs.achievers.has_conditions.Goals.{in-Some+else-not-has, in_default}
 
 below : (g : given.Over) (c : goal.In-Some g) → c.loop-variable.offset + c.in-Some.value < 256
 below g c =
     let lawful = g.S.TaskSource.lawful c.args.source.now in
     value_place lawful _ _ _ _ c.loop-variable-test.true c.variables-variable-end.ensures c.loop-variable.invariant.0 (lawful.need_in c.args.action _ _ (sym c.in-Some.ensures))
 
-pub overflow_add-number : goal.overflow_add-number
-overflow_add-number g c = omega (arith, below g c)
+pub overflow_add-offset : goal.overflow_add-offset
+overflow_add-offset g c = omega (arith, below g c)
 
-pub bounds-reach-number : goal.bounds-reach-number
-bounds-reach-number g c = below g c
-
-pub returns-then-not-reach-number : goal.returns-then-not-reach-number
-returns-then-not-reach-number g c =
+pub returns-then-not-has : goal.returns-then-not-has
+returns-then-not-has g c =
     let lawful = g.S.TaskSource.lawful c.args.source.now in
     let is = sym c.in-Some.ensures in (
       λ e. absurd (false≢true e),
-      λ all. absurd (both_ways _ c.if-not-reach-number.true (all _ _ (need_numbered lawful c.args.action _ _ _ c.loop-variable.invariant.0 is) is)),
+      λ all. absurd (both_ways _ (sym c.has.ensures ∙ c.if-not-has.true) (all _ _ (need_numbered lawful c.args.action _ _ _ c.loop-variable.invariant.0 is) is)),
     )
 
-pub overflow_add-offset : goal.overflow_add-offset
-overflow_add-offset g c =
+pub overflow_add-offset-in-loop-variable : goal.overflow_add-offset-in-loop-variable
+overflow_add-offset-in-loop-variable g c =
     omega (arith, c.size-offset.ensures, size_place (g.S.TaskSource.lawful c.args.source.now) _ _ _ c.loop-variable-test.true c.variables-variable-end.ensures c.loop-variable.invariant.0)
 
 pub loop-variable-preserved : goal.loop-variable-preserved
@@ -40,7 +37,7 @@ loop-variable-preserved g c =
       omega (arith, offset_more t.size v, c.loop-variable.invariant.0, c.size-offset.ensures),
       in_more t c.args.reach.now c.args.action v off c.loop-variable.invariant.0 c.loop-variable.invariant.1 (λ x goal.
           elim c.match-need.branch [
-            | in-Some+else-not-reach-number w ↦ ap (λ y. (get_or c.args.reach.now (off + y) (of_yes false)).yes) (sym (some_same _ x (w.in-Some.ensures ∙ goal))) ∙ w.if-not-reach-number.false
+            | in-Some+else-not-has w ↦ ap (λ y. (get_or c.args.reach.now.table (off + y) (of_yes false)).yes) (sym (some_same _ x (w.in-Some.ensures ∙ goal))) ∙ sym w.has.ensures ∙ w.if-not-has.false
             | in_default w ↦ absurd (no_some x (w.in_default.ensures ∙ goal))
           ]),
     )
