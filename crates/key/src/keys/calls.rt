@@ -1,6 +1,6 @@
 // The calls on a key. None allocates, so none can fail but by the rules.
 ghost use Rattle.key.specs.Keys.{Answered};
-ghost use Rattle.marker.specs.Answers.{acted, marked, reported};
+ghost use Rattle.rules.specs.Results.{acted, marked, reported};
 ghost use Rattle.rules.specs.declared.calls.Call.TheVariants.{Begin, Order, Propose, Report, Step};
 
 use super::Key;
