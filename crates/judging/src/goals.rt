@@ -14,16 +14,13 @@ use task::task_source::TaskSource;
 pub fn missed_goal<S: TaskSource>(source: &S, reach: &ReachTable) -> Option<usize>
     ensures { ReachBuilt (S.task source.now) reach.now.table → MatchOption result (GoalInReach (S.task source.now)) (Lowest (MissedGoal (S.task source.now))) }
 {
-    // An index by hand: the running offset saves a second sum for each variable.
-    let mut offset = 0;
     for variable in 0..source.variables() {
         if let Some(value) = source.goal(variable) {
-            let number = offset + value;
+            let number = source.offset(variable) + value;
             if !reach.has(number) {
                 return Some(number);
             }
         }
-        offset += source.size(variable);
     }
     None
 }

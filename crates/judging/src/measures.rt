@@ -37,13 +37,11 @@ pub fn goal_level<S: TaskSource>(source: &S) -> Option<u16>
 {
     let levels = LevelTable::of(source);
     let mut highest = 0;
-    // An index by hand: the running offset saves a second sum for each variable.
-    let mut offset = 0;
     for variable in 0..source.variables() {
         if let Some(value) = source.goal(variable) {
-            highest = levels.level(offset + value)?.max(highest);
+            let level = levels.level(source.offset(variable) + value)?;
+            highest = level.max(highest);
         }
-        offset += source.size(variable);
     }
     Some(highest)
 }

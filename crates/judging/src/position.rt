@@ -51,15 +51,11 @@ impl Position {
     pub fn mark_facts<S: TaskSource>(&self, source: &S, marks: &mut FactSet)
         ensures { Marked (S.task source.now) marks.old (state_of self.now) (S.task source.now).vars marks.new }
     {
-        // An index by hand: the running offset saves a second sum for each variable.
-        let mut offset = 0;
         for variable in 0..source.variables() {
-            let size = source.size(variable);
             let value = self.value(variable);
-            if value < size {
-                marks.insert(offset + value);
+            if value < source.size(variable) {
+                marks.insert(source.offset(variable) + value);
             }
-            offset += size;
         }
     }
 
@@ -67,15 +63,12 @@ impl Position {
     pub fn first_unmet<S: TaskSource>(&self, source: &S, action: usize) -> Option<usize>
         ensures { MatchOption result (Met (S.task source.now) (state_of self.now) action) (Lowest (Unmet (S.task source.now) (state_of self.now) action)) }
     {
-        // An index by hand: the running offset saves a second sum for each variable.
-        let mut offset = 0;
         for variable in 0..source.variables() {
             if let Some(value) = source.need(action, variable) {
                 if self.value(variable) != value {
-                    return Some(offset + value);
+                    return Some(source.offset(variable) + value);
                 }
             }
-            offset += source.size(variable);
         }
         None
     }
