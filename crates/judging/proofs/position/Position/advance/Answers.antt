@@ -1,4 +1,4 @@
-use Rattle.std.proofs.Common.{◌≡◌, length, unwrap_or, sym, ap, ◌∙◌, inl, inr, zero-le, arith, rules}
+use Rattle.std.proofs.Common.{◌≡◌, ◌≤◌, length, unwrap_or, sym, ap, ◌∙◌, subst, inl, inr, zero-le, le_trans, rules}
 use Rattle.std.proofs.lemmas.List.{get_or_past}
 use Rattle.std.proofs.lemmas.Bool.{cases_lt}
 use Rattle.task.specs.Paths.{given_or}
@@ -16,6 +16,6 @@ returns g c v =
     elim (cases_lt v 64) [
       | inl l ↦ made_at (λ x. unwrap_or (t.give a x) (s x)) _ _ 0 64 c.from_fn.ensures.items.each (λ x y q k. search rules) v zero-le l ∙ given_as (t.give a v) (s v)
       | inr past ↦
-          get_or_past _ v 0 (omega (arith, c.from_fn.ensures.items.long)) ∙ sym (get_or_past c.args.self.now.values v 0 (omega (arith, long)))
-          ∙ sym (ap (λ o. given_or o (s v)) (lawful.give_out a v (omega (arith, lawful.few_vars))))
+          get_or_past _ v 0 (subst (λ n. n ≤ v) (sym c.from_fn.ensures.items.long) past) ∙ sym (get_or_past c.args.self.now.values v 0 (subst (λ n. n ≤ v) (sym long) past))
+          ∙ sym (ap (λ o. given_or o (s v)) (lawful.give_out a v (le_trans lawful.few_vars past)))
     ]
