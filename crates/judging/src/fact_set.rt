@@ -1,5 +1,5 @@
 // Sets of facts, by their numbers.
-ghost use Rattle.std.specs.Prelude.{◌≡◌, ℕ, ◌<◌, false, ◌||◌, ◌==◌};
+ghost use Rattle.std.specs.Prelude.{◌≡◌, ℕ, ◌<◌, ◌≤◌, false, ◌||◌, ◌==◌};
 ghost use Rattle.judging.specs.FactSets.{has};
 
 // A mark for each number that a fact may have.
@@ -25,11 +25,13 @@ impl FactSet {
         self.marks.get(number).copied().unwrap_or(false)
     }
 
-    // Puts the fact with a number into the set.
+    // Puts the fact with a number into the set; a number that no fact can have changes nothing.
     pub fn insert(&mut self, number: usize)
-        requires { number < 256 }
-        ensures { (n : ℕ) → has self.new n ≡ (has self.old n || (n == number)) }
+        ensures added { number < 256 → (n : ℕ) → has self.new n ≡ (has self.old n || (n == number)) }
+        ensures ignored { 256 ≤ number → self.new ≡ self.old }
     {
-        self.marks[number] = true;
+        if number < self.marks.len() {
+            self.marks[number] = true;
+        }
     }
 }

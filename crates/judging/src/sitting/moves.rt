@@ -22,13 +22,12 @@ impl Sitting {
         }
     }
 
-    // Takes an action.
+    // Takes an action; the steps are counted up to 65535.
     pub fn step<S: TaskSource>(&mut self, source: &S, action: usize)
-        requires { self.old.steps < 65535 }
-        ensures { (moves : List ℕ) → SitsAfter (S.task source.now) moves self.old → SitsAfter (S.task source.now) (moves ++ action ∷ []) self.new }
+        ensures { self.old.steps < 65535 → (moves : List ℕ) → SitsAfter (S.task source.now) moves self.old → SitsAfter (S.task source.now) (moves ++ action ∷ []) self.new }
     {
         self.position.advance(source, action);
         self.position.mark_facts(source, &mut self.visited);
-        self.steps += 1;
+        self.steps = self.steps.saturating_add(1);
     }
 }

@@ -13,9 +13,6 @@ below g c =
 pub overflow_add-offset : goal.overflow_add-offset
 overflow_add-offset g c = omega (arith, below g c)
 
-pub insert-requires : goal.insert-requires
-insert-requires g c = below g c
-
 pub loop-variable-preserved : goal.loop-variable-preserved
 loop-variable-preserved g c =
     let t = g.S.TaskSource.task c.args.source.now in
@@ -26,8 +23,9 @@ loop-variable-preserved g c =
     elim c.if-value-size.branch [
       | then-value-size w ↦
           (let small : s v < t.size v = omega (arith, c.size.ensures, c.value-value.ensures, w.if-value-size.true) in
+          let room = value_place (g.S.TaskSource.lawful c.args.source.now) _ _ _ _ c.loop-variable-test.true c.variables-variable-end.ensures w.offset.ensures (omega (arith, c.size.ensures, w.if-value-size.true)) in
           subst (Marked t c.args.marks.now s (v + 1)) (sym w.marks-is)
-          (marked_set t _ _ s v _ inside w.offset.ensures c.loop-variable.invariant _ small (λ n. w.insert.ensures n ∙ ap (λ x. has marks n || eqb n (w.offset.result + x)) c.value-value.ensures)))
+          (marked_set t _ _ s v _ inside w.offset.ensures c.loop-variable.invariant _ small (λ n. w.insert.ensures.added room n ∙ ap (λ x. has marks n || eqb n (w.offset.result + x)) c.value-value.ensures)))
       | else-value-size w ↦
           (let large : t.size v ≤ s v = omega (arith, c.size.ensures, c.value-value.ensures, w.if-value-size.false) in
           subst (Marked t c.args.marks.now s (v + 1)) (sym w.marks-is) (marked_keep t _ _ s v _ inside refl c.loop-variable.invariant large))

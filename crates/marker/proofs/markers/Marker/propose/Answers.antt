@@ -1,4 +1,4 @@
-use Rattle.std.proofs.Common.{refl, sym, ◌∙◌, arith}
+use Rattle.std.proofs.Common.{◌<◌, refl, sym, ◌∙◌, arith}
 use Rattle.std.proofs.lemmas.Bool.{both_ways}
 use Rattle.std.proofs.lemmas.Result.{err_from_is_err_and}
 use Rattle.task.proofs.Numbers.{numbered_below}
@@ -26,10 +26,8 @@ returns-then-not-is_landmark-clause-turn g c m s =
     next_as refl refl refl refl refl
     (propose_out s _ _ c.in_ok-check_goal.ensures at (sym c.contains.ensures ∙ c.if-contains.false) (λ mark. both_ways _ c.if-not-is_landmark.true ((c.is_landmark.ensures at.in_vars).1 mark)))
 
-pub insert-requires : goal.insert-requires
-insert-requires g c = omega (arith, numbered_below (c.fact_at.ensures.right _ c.in_ok-fact.ensures.ok_part), (g.S.TaskSource.lawful c.args.self.now.source).few_facts)
-
 pub returns-clause-turn : goal.returns-clause-turn
 returns-clause-turn g c m s =
     let at = c.fact_at.ensures.right _ c.in_ok-fact.ensures.ok_part in
-    propose_taken s _ _ _ c.in_ok-check_goal.ensures at (sym c.contains.ensures ∙ c.if-contains.false) ((c.is_landmark.ensures at.in_vars).0 c.if-not-is_landmark.false) c.insert.ensures refl refl refl refl
+    let room : c.args.number < 256 = omega (arith, numbered_below at, (g.S.TaskSource.lawful c.args.self.now.source).few_facts) in
+    propose_taken s _ _ _ c.in_ok-check_goal.ensures at (sym c.contains.ensures ∙ c.if-contains.false) ((c.is_landmark.ensures at.in_vars).0 c.if-not-is_landmark.false) (c.insert.ensures.added room) refl refl refl refl

@@ -1,4 +1,4 @@
-use Rattle.std.proofs.Common.{sym, refl, ◌∙◌}
+use Rattle.std.proofs.Common.{sym, refl, ◌∙◌, arith}
 use Rattle.std.proofs.lemmas.Result.{err_from_is_err_and}
 use Rattle.marker.proofs.Turns.{missed_turn}
 use Rattle.marker.proofs.Walks.{step_none, step_many, step_barred, step_turn}
@@ -26,5 +26,5 @@ pub returns : goal.returns
 returns g c = record {
   source = refl;
   tally = refl;
-  turn = λ m s. step_turn s _ _ c.in_ok-check_goal.ensures (sym c.is_present.ensures ∙ c.if-not-is_present.false) c.if-full.false c.in_default.ensures c.step.ensures refl refl refl refl;
+  turn = λ m s. step_turn s _ _ c.in_ok-check_goal.ensures (sym c.is_present.ensures ∙ c.if-not-is_present.false) c.if-full.false c.in_default.ensures (c.step.ensures (omega (arith, c.if-full.false))) refl refl refl refl;
 }
