@@ -1,6 +1,6 @@
 -- What chains over the numbers below a limit give.
-use Rattle.std.proofs.Common.{◌≡◌, ℕ, zero, suc, ◌+◌, ◌<◌, ◌≤◌, Bool, cond, List, ◌∷◌, length, get_or, Some, None, Decides, Option, unwrap_or, sym, refl, ap, ◌∙◌, subst, inl, inr, arith, MatchOption}
-use Rattle.std.proofs.lemmas.Bool.{cases_eq, cases_Bool, both_ways}
+use Rattle.std.proofs.Common.{◌≡◌, ℕ, zero, suc, ◌+◌, ◌<◌, ◌≤◌, Bool, cond, List, ◌∷◌, length, get_or, Some, None, Decides, Option, unwrap_or, sym, refl, ap, ◌∙◌, subst, inl, inr, arith, MatchOption, ◌⊎◌, true, false}
+use Rattle.std.proofs.lemmas.Bool.{cases_eq, cases_Bool, both_ways, false≢true}
 use Rattle.std.specs.Array.{IsFromFnResultFrom}
 use Rattle.std.specs.Fn.{Called}
 use Rattle.std.specs.List.{filter, range_with_len}
@@ -25,6 +25,21 @@ made_at {g = g} h f ys i (suc n) (q, y, at, called, rest) gives k low high =
 pub given_as : (o : Option ℕ) (old : ℕ) → unwrap_or o old ≡ given_or o old
 given_as None old = refl
 given_as (Some x) old = refl
+
+-- the test that a decision makes
+abbrev pub told : {P : Type 0} → P ⊎ (P → ⊥) → Bool
+told (inl p) = true
+told (inr out) = false
+
+pub told_decides : {P : Type 0} (d : P ⊎ (P → ⊥)) → Decides (told d) P
+told_decides (inl p) = (λ e. p, λ q. refl)
+told_decides (inr out) = (λ e. absurd (false≢true e), λ q. absurd (out q))
+
+-- two tests of one fact
+pub same_test : {P : Type 0} (b c : Bool) → Decides b P → Decides c P → b ≡ c
+same_test true c d e = sym (e.1 (d.0 refl))
+same_test false true d e = d.1 (e.0 refl)
+same_test false false d e = refl
 
 -- how many pass a test, from a number on
 count_from : {P : ℕ → Type 0} (test : ℕ → Bool) → ((k : ℕ) → Decides (test k) (P k)) → (n a c : ℕ) → Count P a c → Count P (a + n) (c + length (filter test (range_with_len a n)))

@@ -8,3 +8,4 @@ pub mod Levels
 pub mod Lent
 pub mod Chains
 pub mod Visits
+pub mod Owing

@@ -1,4 +1,4 @@
-// The kind with a number, and results of the single calls as answers.
+// The kind with a number, the number of a kind, and results of the single calls as answers.
 use crate::calls::{Answer, Kind, Mark, Refusal, Standing};
 
 impl TryFrom<usize> for Kind {
@@ -13,6 +13,19 @@ impl TryFrom<usize> for Kind {
             1 => Ok(Kind::Greedy),
             2 => Ok(Kind::Necessary),
             _ => Err(Refusal::NoSuch(number)),
+        }
+    }
+}
+
+impl From<Kind> for usize {
+    ghost use Rattle.rules.specs.Machine.{KindNumber};
+
+    ghost from_gives = { λ kind number. KindNumber number kind };
+
+    fn from(kind: Kind) -> usize {
+        match kind {
+            Kind::Greedy => 1,
+            Kind::Necessary => 2,
         }
     }
 }

@@ -38,12 +38,8 @@ impl Sitting {
         ensures count { Count (OwedIn (S.task source.now) held.now self.now) (facts (S.task source.now)) result }
         ensures bound { result ≤ 256 }
     {
-        let mut total = 0;
-        for number in 0..count_facts(source) {
-            if self.is_owed(source, held, number) {
-                total += 1;
-            }
-        }
-        total
+        (0..count_facts(source))
+            .filter(|number| self.is_owed(source, held, *number))
+            .count() as u16
     }
 }

@@ -15,7 +15,7 @@ impl Key {
     }
 
     // Takes an ordering, by the number of its kind, of two facts of the key if all achievers of the later one that count need the
-    // earlier one.
+    // earlier one. The kind comes by its number, since a number that no kind has is refused.
     pub fn order(&mut self, kind: usize, earlier: usize, later: usize) -> Result<Mark, Refusal>
         ensures { Answered self.old (Order kind earlier later) (marked result) self.new }
     {
