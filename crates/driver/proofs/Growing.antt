@@ -8,7 +8,7 @@ use Rattle.rules.specs.declared.calls.Kind.{Kind}
 use Rattle.rules.specs.declared.calls.Kind.TheVariants.{Greedy, Necessary}
 use Rattle.rules.specs.declared.calls.Call.TheVariants.{Propose, Order}
 use Rattle.rules.specs.declared.calls.Answer.{Answer}
-use Rattle.rules.specs.Machine.{Machine, KindNumber, KindNumber.one_greedy, KindNumber.two_necessary, opened}
+use Rattle.rules.specs.Machine.{Machine, KindNumber, opened}
 use Rattle.rules.specs.Sound.{LandmarkAt, ConfirmedAt, Kept}
 use Rattle.rules.proofs.Sessions.{session_kept}
 use Rattle.key.specs.declared.keys.Key.{Key}
@@ -97,11 +97,11 @@ from_none e k = grown_start k (λ t m κ l low he hl sure. let z : ⊥ = omega a
 abbrev HalfTo : ℕ → ℕ → Saying
 HalfTo e i t m n = FromTo e i t m n × Bonded Greedy e i t m n
 
-pub from_more : {a b c d : Key} {r s : Answer} (e i : ℕ) → Grown (FromTo e i) a b → Answered b (Order 1 e i) r c → Answered c (Order 2 e i) s d → Grown (FromTo e (i + 1)) a d
-from_more {a} {b} {c} {d} e i g h₁ h₂ =
+pub from_more : {a b c d : Key} {r s : Answer} {j k : ℕ} (e i : ℕ) → KindNumber j Greedy → KindNumber k Necessary → Grown (FromTo e i) a b → Answered b (Order j e i) r c → Answered c (Order k e i) s d → Grown (FromTo e (i + 1)) a d
+from_more {a} {b} {c} {d} e i greedy necessary g h₁ h₂ =
     grown_more {Said = HalfTo e i} {Step = Bonded Necessary e i} {Next = FromTo e (i + 1)}
-    (grown_more {Said = FromTo e i} {Step = Bonded Greedy e i} {Next = HalfTo e i} g (called_order Greedy one_greedy h₁) half)
-    (called_order Necessary two_necessary h₂) whole
+    (grown_more {Said = FromTo e i} {Step = Bonded Greedy e i} {Next = HalfTo e i} g (called_order Greedy greedy h₁) half)
+    (called_order Necessary necessary h₂) whole
   where
     half : (t : Task) (m n p : Machine) → Leads t m n → Leads t n p → FromTo e i t m n → Bonded Greedy e i t n p → HalfTo e i t m p
     half t m n p to-n to-p said step =

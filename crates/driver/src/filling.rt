@@ -3,6 +3,7 @@
 ghost use Rattle.driver.specs.Filling.{Grown, LandmarksHeld, OrderedFrom, OrderingsHeld};
 
 use key::keys::Key;
+use rules::calls::Kind;
 use task::facts::count_facts;
 
 // Proposes all facts upwards.
@@ -19,8 +20,8 @@ fn order_from(key: &mut Key, earlier: usize)
     ensures { Grown (OrderedFrom earlier) key.old key.new }
 {
     for later in 0..count_facts(key.source()) {
-        let _ = key.order(1, earlier, later);
-        let _ = key.order(2, earlier, later);
+        let _ = key.order(Kind::Greedy.into(), earlier, later);
+        let _ = key.order(Kind::Necessary.into(), earlier, later);
     }
 }
 

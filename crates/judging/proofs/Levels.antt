@@ -1,6 +1,5 @@
 -- The greatest level of a goal fact, found by a walk over the variables.
-use Rattle.std.proofs.Common.{◌≡◌, ℕ, zero, suc, ◌+◌, ◌<◌, ◌≤◌, max, ◌⊎◌, List, length, get_or, Some, None, sym, refl, ap, ◌∙◌, subst, inl, inr, arith}
-use Rattle.std.proofs.lemmas.List.{get_or_default}
+use Rattle.std.proofs.Common.{◌≡◌, ℕ, zero, suc, ◌+◌, ◌<◌, ◌≤◌, max, ◌⊎◌, List, get_or, Some, None, sym, refl, ap, ◌∙◌, subst, inl, inr, arith}
 use Rattle.std.proofs.lemmas.Bool.{cases_lt, cases_eq}
 use Rattle.task.specs.Task.{Task, Fact, Goal, Lawful, fact, offset}
 use Rattle.task.proofs.Options.{no_some, some_same}
@@ -12,7 +11,6 @@ use Rattle.reach.proofs.LayerFacts.{layer_reach}
 use Rattle.rules.specs.Machine.{GoalLevel}
 use Rattle.judging.specs.Counted.{GoalAt}
 use Rattle.judging.proofs.Reached.{goal_var, goal_in_reach}
-use Rattle.judging.proofs.Places.{value_place}
 
 -- later layers have what a layer has
 pub layer_up : (t : Task) (f : Fact) (n m : ℕ) → n ≤ m → Layer t n f → Layer t m f
@@ -55,11 +53,9 @@ pub level_all : {t : Task} → Lawful t → (h : ℕ) → LevelBelow t t.vars h 
 level_all law h below = record { most = λ f goal. below.most f (goal_var law f goal) goal; reaches = below.reaches }
 
 -- what a table of the levels says of a goal fact
-pub level_told : {t : Task} → Lawful t → (values : List AtLevel) → LevelsBuilt t values → length values ≡ 256 → (v end off x : ℕ) → v < end → end ≡ t.vars → off ≡ offset t.size v → t.goal v ≡ Some x
-    → LevelIs t (fact v x) (layer_of (get_or values (off + x) (of_level 0)))
-level_told {t} law values built long v end off x low vars at goal =
-    subst (λ l. LevelIs t (fact v x) (layer_of l)) (get_or_default values (off + x) (of_level 65535) (of_level 0) (omega (arith, value_place law v end off x low vars at (law.goal_in v x goal))))
-    (built (off + x) (fact v x) (record { in_vars = omega arith; in_size = law.goal_in v x goal; is = ap (λ o. o + x) at }))
+pub level_told : {t : Task} → Lawful t → (values : List AtLevel) → LevelsBuilt t values → (v off x : ℕ) → v < t.vars → off ≡ offset t.size v → t.goal v ≡ Some x
+    → LevelIs t (fact v x) (layer_of (get_or values (off + x) (of_level 65535)))
+level_told law values built v off x inside at goal = built (off + x) (fact v x) (record { in_vars = inside; in_size = law.goal_in v x goal; is = ap (λ o. o + x) at })
 
 -- a goal with a greatest level is in reach
 pub level_near : {t : Task} → Lawful t → (h : ℕ) → LevelBelow t t.vars h → GoalAt t h

@@ -5,5 +5,7 @@ pub mod Places
 pub mod Lacks
 pub mod Widths
 pub mod Levels
-pub mod Tables
 pub mod Lent
+pub mod Chains
+pub mod Visits
+pub mod Owing

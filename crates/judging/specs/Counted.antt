@@ -1,36 +1,40 @@
 -- What a report counts and what is left, by what the tables say.
-use Rattle.std.specs.Prelude.{◌≡◌, ℕ, max, Bool, true, false, ◌⊎◌, List, slice_index_or}
+use Rattle.std.specs.Prelude.{◌≡◌, ℕ, max, true, false, ◌⊎◌}
 use Rattle.task.specs.Task.{Task, Fact, Goal, Numbered, facts}
-use Rattle.task.specs.Paths.{State, Holds, restarted}
+use Rattle.task.specs.Paths.{Holds, restarted}
 use Rattle.reach.specs.Relaxed.{GoalInReach}
 use Rattle.rules.specs.declared.calls.Remainder.{Remainder}
 use Rattle.rules.specs.declared.calls.Remainder.TheVariants.{AtLeast, DeadEnd}
 use Rattle.rules.specs.Machine.{Count, Width, GoalLevel, quotient}
+use Rattle.judging.specs.declared.fact_set.FactSet.{FactSet}
+use Rattle.judging.specs.declared.sitting.Sitting.{Sitting}
+use Rattle.judging.specs.FactSets.{has}
+use Rattle.judging.specs.Position.{state_of}
 
 -- a fact of the key that is visited
-abbrev pub VisitedIn : List Bool → List Bool → ℕ → Type 0
-VisitedIn held visited n = (slice_index_or held n false ≡ true) × (slice_index_or visited n false ≡ true)
+abbrev pub VisitedIn : FactSet → Sitting → ℕ → Type 0
+VisitedIn held s n = (has held n ≡ true) × (has s.visited n ≡ true)
 
 -- a fact of the key that is not visited, or a goal fact that does not hold
-abbrev pub OwedIn : Task → List Bool → List Bool → State → ℕ → Type 0
-OwedIn t held visited s n = (f : Fact) × Numbered t n f × (((slice_index_or held n false ≡ true) × (slice_index_or visited n false ≡ false)) ⊎ (Goal t f × (Holds t s f → ⊥)))
+abbrev pub OwedIn : Task → FactSet → Sitting → ℕ → Type 0
+OwedIn t held s n = (f : Fact) × Numbered t n f × (((has held n ≡ true) × (has s.visited n ≡ false)) ⊎ (Goal t f × (Holds t (state_of s.position) f → ⊥)))
 
 -- the goal is in reach, and its greatest level is g
 pub record GoalAt (t : Task) (g : ℕ) : Type 0 where
   pub near : GoalInReach t
   pub level : GoalLevel t g
 
--- from the state s the remainder is n
-pub record LeftAt (t : Task) (held visited : List Bool) (s : State) (n : ℕ) : Type 0 where
+-- from where the sitting is the remainder is n
+pub record LeftAt (t : Task) (held : FactSet) (s : Sitting) (n : ℕ) : Type 0 where
   pub owed : ℕ
   pub width : ℕ
   pub level : ℕ
-  pub owes : Count (OwedIn t held visited s) (facts t) owed
+  pub owes : Count (OwedIn t held s) (facts t) owed
   pub most : Width t width
-  pub goal : GoalAt (restarted t s) level
+  pub goal : GoalAt (restarted t (state_of s.position)) level
   pub is : n ≡ max level (quotient owed width)
 
--- what is left from the state s
-abbrev pub LeftIn : Task → List Bool → List Bool → State → Remainder → Type 0
-LeftIn t held visited s (AtLeast n) = LeftAt t held visited s n
-LeftIn t held visited s DeadEnd = GoalInReach (restarted t s) → ⊥
+-- what is left from where the sitting is
+abbrev pub LeftIn : Task → FactSet → Sitting → Remainder → Type 0
+LeftIn t held s (AtLeast n) = LeftAt t held s n
+LeftIn t held s DeadEnd = GoalInReach (restarted t (state_of s.position)) → ⊥

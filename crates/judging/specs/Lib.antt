@@ -1,3 +1,5 @@
+pub mod FactSets
 pub mod Position
+pub mod Sittings
 pub mod Achievers
 pub mod Counted

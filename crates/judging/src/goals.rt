@@ -5,45 +5,24 @@ ghost use Rattle.reach.specs.Relaxed.{GoalInReach};
 ghost use Rattle.rules.specs.Machine.{Lowest, MissedGoal};
 ghost use Rattle.rules.specs.Marks.{Landmark};
 
-use reach::measure::InReach;
-use reach::reach::build_reach;
+use reach::tables::ReachTable;
 use task::barred::Barred;
 use task::facts::Fact;
 use task::task_source::TaskSource;
 
-// Says of each fact, by its number, whether it is in reach.
-pub fn fill_reach<S: TaskSource>(source: &S, reach: &mut [InReach; 256])
-    ensures { ReachBuilt (S.task source.now) reach.new }
+// The lowest number of a goal fact out of a task's reach, by the table of that reach: `None` where the goal is in reach.
+pub fn missed_goal<S: TaskSource>(source: &S, reach: &ReachTable) -> Option<usize>
+    ensures { ReachBuilt (S.task source.now) reach.now.table → MatchOption result (GoalInReach (S.task source.now)) (Lowest (MissedGoal (S.task source.now))) }
 {
-    let mut scratch = [InReach { yes: false }; 256];
-    let _layers = build_reach(source, reach, &mut scratch);
-}
-
-// The lowest number of a goal fact that a table of the reach lacks.
-fn first_missed<S: TaskSource>(source: &S, reach: &[InReach; 256]) -> Option<usize>
-    requires { ReachBuilt (S.task source.now) reach.now }
-    ensures { MatchOption result (GoalInReach (S.task source.now)) (Lowest (MissedGoal (S.task source.now))) }
-{
-    let mut offset = 0;
     for variable in 0..source.variables() {
         if let Some(value) = source.goal(variable) {
-            let number = offset + value;
-            if !reach[number].yes {
+            let number = source.offset(variable) + value;
+            if !reach.has(number) {
                 return Some(number);
             }
         }
-        offset += source.size(variable);
     }
     None
-}
-
-// Fills the table of the reach, and answers the lowest number of a goal fact out of it: `None` where the goal is in reach.
-pub fn missed_goal<S: TaskSource>(source: &S, reach: &mut [InReach; 256]) -> Option<usize>
-    ensures reach { ReachBuilt (S.task source.now) reach.new }
-    ensures missed { MatchOption result (GoalInReach (S.task source.now)) (Lowest (MissedGoal (S.task source.now))) }
-{
-    fill_reach(source, reach);
-    first_missed(source, reach)
 }
 
 // Whether no relaxed sequence reaches the goal without a fact.
@@ -53,7 +32,6 @@ pub fn is_landmark<S: TaskSource>(source: &S, fact: Fact) -> bool
     if source.start(fact.variable) == fact.value {
         return true;
     }
-    let mut reach = [InReach { yes: false }; 256];
     let barred = Barred::new(source, fact);
-    missed_goal(&barred, &mut reach).is_some()
+    missed_goal(&barred, &ReachTable::of(&barred)).is_some()
 }

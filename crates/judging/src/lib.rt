@@ -1,10 +1,10 @@
 // What is judged of a planning task, over any source of it: whether the goal is in reach, whether a fact is a landmark, which
-// achiever lacks a condition, where a state leads, and how much is left from it.
+// achiever lacks a condition, where a sitting leads, and how much is left of it.
 #![tactic(auto)]
 
 pub mod achievers;
-pub mod counts;
+pub mod fact_set;
 pub mod goals;
 pub mod measures;
 pub mod position;
-pub mod remainders;
+pub mod sitting;

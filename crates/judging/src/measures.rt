@@ -1,12 +1,10 @@
 // The most effects of an action, and the level of the goal.
 ghost use Rattle.std.specs.Prelude.{◌≤◌, MatchOption};
 ghost use Rattle.judging.specs.Counted.{GoalAt};
-ghost use Rattle.reach.specs.Built.{LevelsBuilt};
 ghost use Rattle.reach.specs.Relaxed.{GoalInReach};
 ghost use Rattle.rules.specs.Machine.{Effects, Width};
 
-use reach::measure::AtLevel;
-use reach::reach::build_levels;
+use reach::tables::LevelTable;
 use task::task_source::TaskSource;
 
 // How many effects an action has.
@@ -14,13 +12,9 @@ fn count_effects<S: TaskSource>(source: &S, action: usize) -> u16
     ensures count { Effects (S.task source.now) action result }
     ensures bound { result ≤ 64 }
 {
-    let mut total = 0;
-    for variable in 0..source.variables() {
-        if source.effect(action, variable).is_some() {
-            total += 1;
-        }
-    }
-    total
+    (0..source.variables())
+        .filter(|variable| source.effect(action, *variable).is_some())
+        .count() as u16
 }
 
 // The most effects of a present action.
@@ -37,31 +31,17 @@ pub fn widest<S: TaskSource>(source: &S) -> u16
     width
 }
 
-// The greatest level of a goal fact in a table of the levels, `None` where one has no level.
-fn highest<S: TaskSource>(source: &S, levels: &[AtLevel; 256]) -> Option<u16>
-    requires { LevelsBuilt (S.task source.now) levels.now }
-    ensures { MatchOption result (GoalInReach (S.task source.now) → ⊥) (GoalAt (S.task source.now)) }
-{
-    let mut highest = 0;
-    let mut offset = 0;
-    for variable in 0..source.variables() {
-        if let Some(value) = source.goal(variable) {
-            let Some(level) = levels[offset + value].layer() else {
-                return None;
-            };
-            highest = level.max(highest);
-        }
-        offset += source.size(variable);
-    }
-    Some(highest)
-}
-
 // The greatest level of a goal fact, 0 without goals: `None` where a goal fact is out of reach.
 pub fn goal_level<S: TaskSource>(source: &S) -> Option<u16>
     ensures { MatchOption result (GoalInReach (S.task source.now) → ⊥) (GoalAt (S.task source.now)) }
 {
-    let mut levels = [AtLevel { level: 0 }; 256];
-    let mut scratch = [AtLevel { level: 0 }; 256];
-    let _layers = build_levels(source, &mut levels, &mut scratch);
-    highest(source, &levels)
+    let levels = LevelTable::of(source);
+    let mut highest = 0;
+    for variable in 0..source.variables() {
+        if let Some(value) = source.goal(variable) {
+            let level = levels.level(source.offset(variable) + value)?;
+            highest = level.max(highest);
+        }
+    }
+    Some(highest)
 }

@@ -1,58 +1,83 @@
-// A position: a value for each variable, and 0 past them.
-ghost use Rattle.std.specs.Prelude.{◌≡◌, ℕ, MatchOption, slice_index};
-ghost use Rattle.judging.specs.Position.{Marked, Met, of_list};
+// Positions: a value for each variable, and 0 past them.
+ghost use Rattle.std.specs.Prelude.{◌≡◌, ℕ, MatchOption};
+ghost use Rattle.judging.specs.Counted.{GoalAt};
+ghost use Rattle.judging.specs.Position.{Marked, Met, state_of};
+ghost use Rattle.reach.specs.Relaxed.{GoalInReach};
 ghost use Rattle.rules.specs.Machine.{Lowest, Unmet};
-ghost use Rattle.task.specs.Paths.{after};
+ghost use Rattle.task.specs.Paths.{after, restarted};
 
+use crate::fact_set::FactSet;
+use crate::measures::goal_level;
+use std::array;
+use task::restarted::Restarted;
 use task::task_source::TaskSource;
 
-// Puts the start there.
-pub fn put_start<S: TaskSource>(source: &S, state: &mut [usize; 64])
-    ensures { (v : ℕ) → slice_index state.new v ≡ (S.task source.now).start v }
-{
-    for variable in 0..64 {
-        state[variable] = source.start(variable);
-    }
+#[derive(Clone, Copy)]
+pub struct Position {
+    values: [usize; 64],
 }
 
-// Puts the effects of an action there.
-pub fn advance<S: TaskSource>(source: &S, action: usize, state: &mut [usize; 64])
-    ensures { (v : ℕ) → slice_index state.new v ≡ after (S.task source.now) (of_list state.old) action v }
-{
-    for variable in 0..source.variables() {
-        if let Some(value) = source.effect(action, variable) {
-            state[variable] = value;
+impl Position {
+    // The start of a task.
+    pub fn start_of<S: TaskSource>(source: &S) -> Position
+        ensures { (v : ℕ) → state_of result v ≡ (S.task source.now).start v }
+    {
+        Position {
+            values: array::from_fn(|variable| source.start(variable)),
         }
     }
-}
 
-// Marks the facts that hold there.
-pub fn mark_facts<S: TaskSource>(source: &S, state: &[usize; 64], marks: &mut [bool; 256])
-    ensures { Marked (S.task source.now) marks.old (of_list state.now) (S.task source.now).vars marks.new }
-{
-    let mut offset = 0;
-    for variable in 0..source.variables() {
-        let size = source.size(variable);
-        let value = state[variable];
-        if value < size {
-            marks[offset + value] = true;
-        }
-        offset += size;
+    // The value of a variable, 0 past the last one.
+    pub fn value(&self, variable: usize) -> usize
+        ensures { result ≡ state_of self.now variable }
+    {
+        self.values.get(variable).copied().unwrap_or(0)
     }
-}
 
-// The lowest number of a condition of an action that does not hold there.
-pub fn first_unmet<S: TaskSource>(source: &S, state: &[usize; 64], action: usize) -> Option<usize>
-    ensures { MatchOption result (Met (S.task source.now) (of_list state.now) action) (Lowest (Unmet (S.task source.now) (of_list state.now) action)) }
-{
-    let mut offset = 0;
-    for variable in 0..source.variables() {
-        if let Some(value) = source.need(action, variable) {
-            if state[variable] != value {
-                return Some(offset + value);
+    // Puts the effects of an action there.
+    pub fn advance<S: TaskSource>(&mut self, source: &S, action: usize)
+        ensures { (v : ℕ) → state_of self.new v ≡ after (S.task source.now) (state_of self.old) action v }
+    {
+        *self = Position {
+            values: array::from_fn(|variable| {
+                source
+                    .effect(action, variable)
+                    .unwrap_or(self.value(variable))
+            }),
+        };
+    }
+
+    // Puts the facts that hold there into a set.
+    pub fn mark_facts<S: TaskSource>(&self, source: &S, marks: &mut FactSet)
+        ensures { Marked (S.task source.now) marks.old (state_of self.now) (S.task source.now).vars marks.new }
+    {
+        for variable in 0..source.variables() {
+            let value = self.value(variable);
+            if value < source.size(variable) {
+                marks.insert(source.offset(variable) + value);
             }
         }
-        offset += source.size(variable);
     }
-    None
+
+    // The lowest number of a condition of an action that does not hold there.
+    pub fn first_unmet<S: TaskSource>(&self, source: &S, action: usize) -> Option<usize>
+        ensures { MatchOption result (Met (S.task source.now) (state_of self.now) action) (Lowest (Unmet (S.task source.now) (state_of self.now) action)) }
+    {
+        for variable in 0..source.variables() {
+            if let Some(value) = source.need(action, variable) {
+                if self.value(variable) != value {
+                    return Some(source.offset(variable) + value);
+                }
+            }
+        }
+        None
+    }
+
+    // The greatest level of a goal fact from there, 0 without goals: `None` where a goal fact is out of reach.
+    pub fn goal_level<S: TaskSource>(&self, source: &S) -> Option<u16>
+        ensures { MatchOption result (GoalInReach (restarted (S.task source.now) (state_of self.now)) → ⊥) (GoalAt (restarted (S.task source.now) (state_of self.now))) }
+    {
+        let here = Restarted::new(source, &self.values);
+        goal_level(&here)
+    }
 }

@@ -13,15 +13,8 @@ fn check_answers(
     calls: &[Call],
     expected: &[Answer],
 ) -> Result<(), Fail> {
-    let Ok(transcript) = replay(rt.alloc(), &Fork {}, calls) else {
-        return Err(Fail::new("memory"));
-    };
-    assert_eq!(rt; transcript.answers.len(), expected.len());
-    for i in 0..expected.len() {
-        if i < transcript.answers.len() {
-            assert_eq!(rt; transcript.answers[i], expected[i]);
-        }
-    }
+    let transcript = replay(rt.alloc(), &Fork {}, calls)?;
+    assert_eq!(rt; transcript.answers.as_slice(), expected);
     Ok(())
 }
 
@@ -129,9 +122,7 @@ fn a_sitting(rt: HostRuntime) -> Result<(), Fail> {
 
 #[test]
 fn a_tally(rt: HostRuntime) -> Result<(), Fail> {
-    let Ok(mut key) = Key::open(rt.alloc(), &Fork {}) else {
-        return Err(Fail::new("memory"));
-    };
+    let mut key = Key::open(rt.alloc(), &Fork {})?;
     assert_eq!(rt; key.tally(), 0);
     let _ = key.propose(1);
     let _ = key.propose(0);
@@ -153,9 +144,7 @@ fn a_tally(rt: HostRuntime) -> Result<(), Fail> {
 #[test]
 fn a_goal_out_of_reach(rt: HostRuntime) -> Result<(), Fail> {
     let barred = Barred::by_number(Fork {}, 3);
-    let Ok(mut key) = Key::open(rt.alloc(), &barred) else {
-        return Err(Fail::new("memory"));
-    };
+    let mut key = Key::open(rt.alloc(), &barred)?;
     let refused = Answer::Refused(Refusal::GoalOutOfReach(4));
     assert_eq!(rt; key.answer(Call::Propose(0)), refused);
     assert_eq!(rt; key.answer(Call::Order(9, 9, 9)), refused);

@@ -1,10 +1,10 @@
 -- What a proposal does to the machine that a marker shows.
-use Rattle.std.proofs.Common.{◌≡◌, ℕ, ◌<◌, ◌≤◌, Bool, true, false, ◌||◌, eqb, List, length, get_or, set, Some, None, vec_items, sym, ap, ◌∙◌, subst, inl, inr, arith, get_or-set_other, get_or-set_same, MatchOption}
-use Rattle.std.proofs.lemmas.Bool.Decides.{nat_tests}
+use Rattle.std.proofs.Common.{◌≡◌, ℕ, ◌<◌, ◌≤◌, true, false, ◌||◌, eqb, Some, None, Option, Err, Result, sym, ap, ◌∙◌, subst, inl, inr, MatchOption}
 use Rattle.std.proofs.lemmas.Bool.{cases_lt}
-use Rattle.task.specs.Task.{Task, Fact, Lawful, Numbered, facts}
+use Rattle.std.specs.Option.{ok_or}
+use Rattle.task.specs.Task.{Task, Fact, Numbered, facts}
 use Rattle.task.specs.Facts.{Exactly}
-use Rattle.task.proofs.Numbers.{numbered, numbered_below}
+use Rattle.task.proofs.Numbers.{numbered}
 use Rattle.task.proofs.Options.{no_some}
 use Rattle.reach.specs.Relaxed.{GoalInReach}
 use Rattle.rules.specs.Marks.{Landmark}
@@ -13,46 +13,50 @@ use Rattle.rules.specs.declared.calls.Call.TheVariants.{Propose}
 use Rattle.rules.specs.declared.calls.Answer.{Answer}
 use Rattle.rules.specs.declared.calls.Answer.TheVariants.{Marked, Refused}
 use Rattle.rules.specs.declared.calls.Mark.TheVariants.{Accepted, Known}
+use Rattle.rules.specs.declared.calls.Refusal.{Refusal}
 use Rattle.rules.specs.declared.calls.Refusal.TheVariants.{GoalOutOfReach, NoSuch, NoLandmark}
 use Rattle.rules.specs.Machine.{Machine, Turn, Turn.goal_missed, Turn.ruled, Lowest, MissedGoal, with_fact}
 use Rattle.rules.specs.Machine.Ruled.{propose_no_fact, propose_known, propose_confirmed, propose_rejected}
+use Rattle.judging.specs.FactSets.{has}
+use Rattle.judging.specs.Sittings.{SitsAfter}
 use Rattle.marker.specs.declared.markers.Marker.{Marker}
-use Rattle.marker.specs.Shows.{Shows, place}
+use Rattle.marker.specs.Ordered.{ordered}
+use Rattle.marker.specs.Shows.{Shows}
 
 -- the machine after a call
 abbrev pub Next : {S : Type 0} → Task → Marker S → Machine → Call → Answer → Type 0
 Next t after m c r = (n : Machine) × Turn t m c r n × Shows t after n
 
 -- a number that no fact has
-pub no_number : {t : Task} {n : ℕ} → Exactly (Numbered t n) None → facts t ≤ n
-no_number {t} {n} e = elim (cases_lt n (facts t)) [ inl l ↦ (let f = numbered t n l in absurd (no_some f.0 (e.found f.0 f.1))) | inr past ↦ past ]
+pub no_number : {t : Task} {n : ℕ} {r : Option Fact} → r ≡ None → Exactly (Numbered t n) r → facts t ≤ n
+no_number {t} {n} is e = elim (cases_lt n (facts t)) [ inl l ↦ (let f = numbered t n l in absurd (no_some f.0 (sym is ∙ e.found f.0 f.1))) | inr past ↦ past ]
 
--- one more in a table
-set_bool : (bs : List Bool) (n k : ℕ) (f : ℕ → Bool) → n < length bs → ((j : ℕ) → get_or bs j false ≡ f j) → get_or (set bs n true) k false ≡ (f k || eqb k n)
-set_bool bs n k f h same = grind (arith, nat_tests, get_or-set_same, get_or-set_other, same k)
+-- a lookup that found nothing is refused as was said
+pub refused_as : {A : Type 0} (o : Option A) (n e : Refusal) → o ≡ None → ◌≡◌ {A = Result A Refusal} (Err e) (ok_or o n) → e ≡ n
+refused_as None n e is v = cc
+refused_as (Some x) n e is v = absurd (no_some x (sym is))
 
--- a marker with the same tables shows the same machine
-pub shows_as : {S : Type 0} {t : Task} {m : Machine} {one other : Marker S} → other.held ≡ one.held → other.orders ≡ one.orders → other.visited ≡ one.visited → other.state ≡ one.state → other.steps ≡ one.steps → other.reach ≡ one.reach → other.missed ≡ one.missed
+-- a marker with the same parts shows the same machine
+pub shows_as : {S : Type 0} {t : Task} {m : Machine} {one other : Marker S} → other.held ≡ one.held → other.orderings ≡ one.orderings → other.sitting ≡ one.sitting → other.reach ≡ one.reach → other.missed ≡ one.missed
     → Shows t one m → Shows t other m
-shows_as {t} held orders visited state steps reach missed s = record {
-  held = λ k. ap (λ bs. get_or bs k false) held ∙ s.held k;
-  ordered = λ κ e l h i. ap (λ v. get_or (vec_items v) (place κ e l) false) orders ∙ s.ordered κ e l h i;
+shows_as {t} {m} held orderings sitting reach missed s = record {
+  held = λ k. ap (λ x. has x k) held ∙ s.held k;
+  ordered = λ κ e l. ap (λ o. ordered o κ e l) orderings ∙ s.ordered κ e l;
   outside = s.outside;
-  visited = λ k g h. rw visited (s.visited k g h);
-  state = λ v. ap (λ xs. get_or xs v 0) state ∙ s.state v;
-  steps = steps ∙ s.steps;
+  sitting = subst (SitsAfter t m.moves) (sym sitting) s.sitting;
   reach = rw reach s.reach;
   missed = subst (λ o. MatchOption o (GoalInReach t) (Lowest (MissedGoal t))) (sym missed) s.missed;
 }
 
-pub next_as : {S : Type 0} {t : Task} {m : Machine} {c : Call} {r : Answer} {one other : Marker S} → other.held ≡ one.held → other.orders ≡ one.orders → other.visited ≡ one.visited → other.state ≡ one.state → other.steps ≡ one.steps → other.reach ≡ one.reach → other.missed ≡ one.missed
+pub next_as : {S : Type 0} {t : Task} {m : Machine} {c : Call} {r : Answer} {one other : Marker S} → other.held ≡ one.held → other.orderings ≡ one.orderings → other.sitting ≡ one.sitting → other.reach ≡ one.reach → other.missed ≡ one.missed
     → Next t one m c r → Next t other m c r
-next_as held orders visited state steps reach missed (n, turn, s) = (n, turn, shows_as held orders visited state steps reach missed s)
+next_as held orderings sitting reach missed (n, turn, s) = (n, turn, shows_as held orderings sitting reach missed s)
 
 module _ {S : Type 0} {t : Task} {before : Marker S} {m : Machine} (s : Shows t before m) where
   -- a goal fact out of reach, or none
-  pub missed_turn : (c : Call) (n : ℕ) → before.missed ≡ Some n → Next t before m c (Refused (GoalOutOfReach n))
-  missed_turn c n is = (m, goal_missed (subst (λ o. MatchOption o (GoalInReach t) (Lowest (MissedGoal t))) is s.missed), s)
+  pub missed_turn : (c : Call) (e : Refusal) → (n : ℕ) × (before.missed ≡ Some n) × (e ≡ GoalOutOfReach n) → Next t before m c (Refused e)
+  missed_turn c e (n, is, same) =
+      subst (λ r. Next t before m c (Refused r)) (sym same) (m, goal_missed (subst (λ o. MatchOption o (GoalInReach t) (Lowest (MissedGoal t))) is s.missed), s)
 
   pub near : before.missed ≡ None → GoalInReach t
   near is = subst (λ o. MatchOption o (GoalInReach t) (Lowest (MissedGoal t))) is s.missed
@@ -60,25 +64,23 @@ module _ {S : Type 0} {t : Task} {before : Marker S} {m : Machine} (s : Shows t 
   pub propose_past : (n : ℕ) → before.missed ≡ None → facts t ≤ n → Next t before m (Propose n) (Refused (NoSuch n))
   propose_past n is past = (m, ruled (near is) (propose_no_fact past), s)
 
-  pub propose_there : (n : ℕ) → before.missed ≡ None → n < facts t → get_or before.held n false ≡ true → Next t before m (Propose n) (Marked Known)
+  pub propose_there : (n : ℕ) → before.missed ≡ None → n < facts t → has before.held n ≡ true → Next t before m (Propose n) (Marked Known)
   propose_there n is below there = (m, ruled (near is) (propose_known below (sym (s.held n) ∙ there)), s)
 
-  pub propose_out : (n : ℕ) (f : Fact) → before.missed ≡ None → Numbered t n f → get_or before.held n false ≡ false → (Landmark t f → ⊥) → Next t before m (Propose n) (Refused (NoLandmark n))
+  pub propose_out : (n : ℕ) (f : Fact) → before.missed ≡ None → Numbered t n f → has before.held n ≡ false → (Landmark t f → ⊥) → Next t before m (Propose n) (Refused (NoLandmark n))
   propose_out n f is at new none = (m, ruled (near is) (propose_rejected at (sym (s.held n) ∙ new) none), s)
 
-  pub propose_taken : Lawful t → (after : Marker S) (n : ℕ) (f : Fact) → before.missed ≡ None → Numbered t n f → get_or before.held n false ≡ false → Landmark t f → length before.held ≡ 256
-      → after.held ≡ set before.held n true → after.orders ≡ before.orders → after.visited ≡ before.visited → after.state ≡ before.state → after.steps ≡ before.steps → after.reach ≡ before.reach → after.missed ≡ before.missed
+  pub propose_taken : (after : Marker S) (n : ℕ) (f : Fact) → before.missed ≡ None → Numbered t n f → has before.held n ≡ false → Landmark t f
+      → ((k : ℕ) → has after.held k ≡ (has before.held k || eqb k n)) → after.orderings ≡ before.orderings → after.sitting ≡ before.sitting → after.reach ≡ before.reach → after.missed ≡ before.missed
       → Next t after m (Propose n) (Marked Accepted)
-  propose_taken law after n f is at new mark long held orders visited state steps reach missed = (
+  propose_taken after n f is at new mark more orderings sitting reach missed = (
     with_fact m n,
     ruled (near is) (propose_confirmed at (sym (s.held n) ∙ new) mark),
     record {
-      held = λ k. ap (λ bs. get_or bs k false) held ∙ set_bool before.held n k m.held (omega (arith, numbered_below at, law.few_facts)) s.held;
-      ordered = λ κ e l h i. ap (λ v. get_or (vec_items v) (place κ e l) false) orders ∙ s.ordered κ e l h i;
+      held = λ k. more k ∙ ap (λ b. b || eqb k n) (s.held k);
+      ordered = λ κ e l. ap (λ o. ordered o κ e l) orderings ∙ s.ordered κ e l;
       outside = s.outside;
-      visited = λ k g h. rw visited (s.visited k g h);
-      state = λ v. ap (λ xs. get_or xs v 0) state ∙ s.state v;
-      steps = steps ∙ s.steps;
+      sitting = subst (SitsAfter t m.moves) (sym sitting) s.sitting;
       reach = rw reach s.reach;
       missed = subst (λ o. MatchOption o (GoalInReach t) (Lowest (MissedGoal t))) (sym missed) s.missed;
     },

@@ -1,23 +1,20 @@
 // A marker: the facts and orderings of a key, and a sitting in the task.
-ghost use Rattle.std.specs.Prelude.{◌≡◌, vec_len};
+use crate::orderings::Orderings;
+use judging::fact_set::FactSet;
+use judging::sitting::Sitting;
+use reach::tables::ReachTable;
 
-use reach::measure::InReach;
-
-// Facts go by their numbers. `reach` is the task's own reach and `missed` its lowest goal fact out of it. `held` says which facts the
-// key has; `orders` has a place for each kind and each pair of facts; `state` has a value for each variable; `visited` says which
-// facts the sitting has visited in `steps` steps; `tally` counts the proposals and orderings that were not confirmed.
+// `reach` is the task's own reach and `missed` its lowest goal fact out of it. `held` and `orderings` are the key. `tally` counts the
+// proposals and orderings that were not confirmed.
 #[derive(Drop)]
 pub struct Marker<S> {
     source: S,
-    reach: [InReach; 256],
+    reach: ReachTable,
     missed: Option<usize>,
-    held: [bool; 256],
-    orders: Vec<bool>,
-    visited: [bool; 256],
-    state: [usize; 64],
-    steps: u16,
+    held: FactSet,
+    orderings: Orderings,
+    sitting: Sitting,
     tally: u16,
-    ghost long: { vec_len orders ≡ 131072 },
 }
 
 mod calls;
@@ -26,6 +23,5 @@ mod known;
 mod moves;
 mod opening;
 mod orders;
-mod places;
 mod reports;
 mod views;

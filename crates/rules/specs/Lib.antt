@@ -4,3 +4,4 @@ pub mod Marked
 pub mod Machine
 pub mod Answered
 pub mod Sound
+pub mod Results

@@ -6,6 +6,7 @@ ghost use Rattle.rules.specs.Marked.{AchieversCount, AchieversCovered, GoalReach
 ghost use Rattle.rules.specs.Sound.{KeysKept, NeverByZero, NeverMarkedDown};
 
 pub mod calls;
+pub mod conversions;
 pub mod numbers;
 
 // Every plan is a relaxed sequence that has the goal: a task with a plan has its goal in relaxed reach.

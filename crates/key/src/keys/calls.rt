@@ -1,6 +1,6 @@
 // The calls on a key. None allocates, so none can fail but by the rules.
 ghost use Rattle.key.specs.Keys.{Answered};
-ghost use Rattle.marker.specs.Answers.{acted, marked, reported};
+ghost use Rattle.rules.specs.Results.{acted, marked, reported};
 ghost use Rattle.rules.specs.declared.calls.Call.TheVariants.{Begin, Order, Propose, Report, Step};
 
 use super::Key;
@@ -15,7 +15,7 @@ impl Key {
     }
 
     // Takes an ordering, by the number of its kind, of two facts of the key if all achievers of the later one that count need the
-    // earlier one.
+    // earlier one. The kind comes by its number, since a number that no kind has is refused.
     pub fn order(&mut self, kind: usize, earlier: usize, later: usize) -> Result<Mark, Refusal>
         ensures { Answered self.old (Order kind earlier later) (marked result) self.new }
     {

@@ -1,6 +1,7 @@
 // Proposals of facts.
+ghost use Rattle.marker.specs.Answers.{tallied};
 ghost use Rattle.marker.specs.Shows.{Answered};
-ghost use Rattle.marker.specs.Answers.{marked, tallied};
+ghost use Rattle.rules.specs.Results.{marked};
 ghost use Rattle.rules.specs.declared.calls.Call.TheVariants.{Propose};
 ghost use Rattle.std.specs.Prelude.{◌≡◌};
 
@@ -17,20 +18,16 @@ impl<S: TaskSource> Marker<S> {
         ensures tally { self.new.tally ≡ tallied self.old.tally (marked result) }
         ensures turn { Answered (S.task self.old.source) self.old (Propose number) (marked result) self.new }
     {
-        if let Some(goal) = self.missed {
-            return Err(Refusal::GoalOutOfReach(goal));
-        }
-        let Some(fact) = fact_at(&self.source, number) else {
-            return Err(Refusal::NoSuch(number));
-        };
-        if self.held[number] {
+        self.check_goal()?;
+        let fact = fact_at(&self.source, number).ok_or(Refusal::NoSuch(number))?;
+        if self.held.contains(number) {
             return Ok(Mark::Known);
         }
         if !is_landmark(&self.source, fact) {
             self.tally = self.tally.saturating_add(1);
             return Err(Refusal::NoLandmark(number));
         }
-        self.held[number] = true;
+        self.held.insert(number);
         Ok(Mark::Accepted)
     }
 }

@@ -4,9 +4,11 @@ ghost use Rattle.rules.specs.Machine.{opened};
 ghost use Rattle.std.specs.Prelude.{◌≡◌, IfOk};
 
 use super::Marker;
+use crate::orderings::Orderings;
+use judging::fact_set::FactSet;
 use judging::goals::missed_goal;
-use judging::position::{mark_facts, put_start};
-use reach::measure::InReach;
+use judging::sitting::Sitting;
+use reach::tables::ReachTable;
 use std::alloc::{AllocError, Global};
 use task::task_source::TaskSource;
 
@@ -17,22 +19,17 @@ impl<S: TaskSource + Drop> Marker<S> {
         ensures opened { IfOk result (λ k. Shows (S.task source) k opened) }
         ensures tally { IfOk result (λ k. k.tally ≡ 0) }
     {
-        let orders = vec![in heap; false; 131072]?;
-        let mut state = [0; 64];
-        let mut visited = [false; 256];
-        let mut reach = [InReach { yes: false }; 256];
-        put_start(&source, &mut state);
-        mark_facts(&source, &state, &mut visited);
-        let missed = missed_goal(&source, &mut reach);
+        let orderings = Orderings::new(heap)?;
+        let reach = ReachTable::of(&source);
+        let missed = missed_goal(&source, &reach);
+        let sitting = Sitting::start_of(&source);
         Ok(Marker {
             source,
             reach,
             missed,
-            held: [false; 256],
-            orders,
-            visited,
-            state,
-            steps: 0,
+            held: FactSet::empty(),
+            orderings,
+            sitting,
             tally: 0,
         })
     }

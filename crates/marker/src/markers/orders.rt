@@ -1,13 +1,13 @@
 // Orderings of the facts of a key.
+ghost use Rattle.marker.specs.Answers.{tallied};
 ghost use Rattle.marker.specs.Shows.{Answered};
-ghost use Rattle.marker.specs.Answers.{marked, tallied};
+ghost use Rattle.rules.specs.Results.{marked};
 ghost use Rattle.rules.specs.declared.calls.Call.TheVariants.{Order};
 ghost use Rattle.std.specs.Prelude.{◌≡◌};
 
 use super::Marker;
-use super::places::{kind_of, place_of};
 use judging::achievers::lacking_action;
-use rules::calls::{Mark, Refusal};
+use rules::calls::{Kind, Mark, Refusal};
 use task::facts::fact_at;
 use task::task_source::TaskSource;
 
@@ -18,38 +18,27 @@ impl<S: TaskSource> Marker<S> {
         ensures tally { self.new.tally ≡ tallied self.old.tally (marked result) }
         ensures turn { Answered (S.task self.old.source) self.old (Order kind earlier later) (marked result) self.new }
     {
-        if let Some(goal) = self.missed {
-            return Err(Refusal::GoalOutOfReach(goal));
-        }
-        let Some(sort) = kind_of(kind) else {
-            return Err(Refusal::NoSuch(kind));
-        };
-        let Some(first) = fact_at(&self.source, earlier) else {
-            return Err(Refusal::NoSuch(earlier));
-        };
-        let Some(second) = fact_at(&self.source, later) else {
-            return Err(Refusal::NoSuch(later));
-        };
-        let at_start = self.source.start(second.variable) == second.value;
-        let later_held = self.held[later];
-        if !self.held[earlier] {
+        self.check_goal()?;
+        let sort = Kind::try_from(kind)?;
+        let first = fact_at(&self.source, earlier).ok_or(Refusal::NoSuch(earlier))?;
+        let second = fact_at(&self.source, later).ok_or(Refusal::NoSuch(later))?;
+        if !self.held.contains(earlier) {
             return Err(Refusal::OutsideKey(earlier));
         }
-        if !later_held {
+        if !self.held.contains(later) {
             return Err(Refusal::OutsideKey(later));
         }
-        if at_start {
+        if self.source.start(second.variable) == second.value {
             return Err(Refusal::LaterAtStart(later));
         }
-        let place = place_of(sort, earlier, later);
-        if self.orders[place] {
+        if self.orderings.contains(sort, earlier, later) {
             return Ok(Mark::Known);
         }
         if let Some(action) = lacking_action(&self.source, &self.reach, sort, first, second) {
             self.tally = self.tally.saturating_add(1);
             return Err(Refusal::Unordered(action));
         }
-        self.orders[place] = true;
+        self.orderings.insert(sort, earlier, later);
         Ok(Mark::Accepted)
     }
 }

@@ -4,7 +4,6 @@ ghost use Rattle.rules.specs.Machine.{Machine, position};
 ghost use Rattle.std.specs.Prelude.{◌≡◌};
 
 use super::Marker;
-use super::places::{is_marked, place_of, value_or_zero};
 use rules::calls::Kind;
 use task::task_source::TaskSource;
 
@@ -13,27 +12,21 @@ impl<S: TaskSource> Marker<S> {
     pub fn holds(&self, number: usize) -> bool
         ensures { (m : Machine) → Shows (S.task self.now.source) self.now m → result ≡ m.held number }
     {
-        is_marked(&self.held, number)
+        self.held.contains(number)
     }
 
     // Whether the key has an ordering of two facts by their numbers.
     pub fn is_ordered(&self, kind: Kind, earlier: usize, later: usize) -> bool
         ensures { (m : Machine) → Shows (S.task self.now.source) self.now m → result ≡ m.ordered kind earlier later }
     {
-        if earlier >= 256 {
-            return false;
-        }
-        if later >= 256 {
-            return false;
-        }
-        self.orders[place_of(kind, earlier, later)]
+        self.orderings.contains(kind, earlier, later)
     }
 
     // The value of a variable in the state that the sitting has reached, 0 past the last variable.
     pub fn value(&self, variable: usize) -> usize
         ensures { (m : Machine) → Shows (S.task self.now.source) self.now m → result ≡ position (S.task self.now.source) m variable }
     {
-        value_or_zero(&self.state, variable)
+        self.sitting.position.value(variable)
     }
 
     // How many proposals and orderings were not confirmed, 65535 for more.

@@ -8,7 +8,7 @@ pub loop-later-init : goal.loop-later-init
 loop-later-init c = from_none c.args.earlier c.args.key.now
 
 pub loop-later-preserved : goal.loop-later-preserved
-loop-later-preserved c = from_more {a = c.args.key.now} {b = c.loop-later.key} {c = c.order.new.self} c.args.earlier c.loop-later.later c.loop-later.invariant c.order.ensures c.order-in-loop-later.ensures
+loop-later-preserved c = from_more {a = c.args.key.now} {b = c.loop-later.key} {c = c.order.new.self} c.args.earlier c.loop-later.later c.into.ensures c.into-in-loop-later.ensures c.loop-later.invariant c.order.ensures c.order-in-loop-later.ensures
 
 pub returns : goal.returns
 returns c =

@@ -12,7 +12,7 @@ returns-in-Greedy g c built =
     let e = c.args.earlier in
     let l = c.args.later in
     subst (λ κ. MatchOption c.first_lacking.result (Confirmed κ t e l) (Lowest (Lacking κ t e l))) (sym c.in-Greedy.is)
-    (lacks_judged (g.S.TaskSource.lawful c.args.source.now) Greedy e l _ (reach_as g.S.TaskSource.task l c.new-barred.ensures.inner c.new-barred.ensures.fact _ c.fill_reach.ensures) _ c.first_lacking.ensures)
+    (lacks_judged (g.S.TaskSource.lawful c.args.source.now) Greedy e l _ (reach_as g.S.TaskSource.task l c.new.ensures.inner c.new.ensures.fact _ c.of-possible.ensures) _ c.first_lacking.ensures)
 
 pub returns-in-Necessary : goal.returns-in-Necessary
 returns-in-Necessary g c built =

@@ -1,5 +1,5 @@
 use Rattle.rules.specs.declared.calls.Call.TheVariants.{Begin}
-use Rattle.marker.specs.Answers.{acted}
+use Rattle.rules.specs.Results.{acted}
 use Rattle.key.proofs.Leading.{led_more, key_answered}
 use Rattle.key.proofs.keys.Key.begin.Goals as goal
 

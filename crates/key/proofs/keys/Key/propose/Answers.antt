@@ -1,5 +1,5 @@
 use Rattle.rules.specs.declared.calls.Call.TheVariants.{Propose}
-use Rattle.marker.specs.Answers.{marked}
+use Rattle.rules.specs.Results.{marked}
 use Rattle.key.proofs.Leading.{led_more, key_answered}
 use Rattle.key.proofs.keys.Key.propose.Goals as goal
 

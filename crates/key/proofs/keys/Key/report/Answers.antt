@@ -1,6 +1,6 @@
 use Rattle.std.proofs.Common.{refl}
 use Rattle.rules.specs.declared.calls.Call.TheVariants.{Report}
-use Rattle.marker.specs.Answers.{reported}
+use Rattle.rules.specs.Results.{reported}
 use Rattle.key.proofs.Leading.{key_answered}
 use Rattle.key.proofs.keys.Key.report.Goals as goal
 

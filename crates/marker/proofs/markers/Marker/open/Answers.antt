@@ -5,6 +5,6 @@ use Rattle.marker.proofs.markers.Marker.open.Goals as goal
 pub returns : goal.returns
 returns g c = record {
   source = refl;
-  opened = shows_opened _ _ refl (c.in_ok-orders.ensures.items_if_clones_equal (λ y e. e)) c.put_start.ensures c.mark_facts.ensures refl c.missed_goal-missed.ensures.reach c.missed_goal-missed.ensures.missed;
+  opened = shows_opened _ _ c.empty.ensures c.in_ok-orderings.ensures c.start_of-sitting.ensures c.of-reach.ensures (c.missed_goal-missed.ensures c.of-reach.ensures);
   tally = refl;
 }

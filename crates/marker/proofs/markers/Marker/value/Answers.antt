@@ -2,4 +2,4 @@ use Rattle.std.proofs.Common.{◌∙◌}
 use Rattle.marker.proofs.markers.Marker.value.Goals as goal
 
 pub returns : goal.returns
-returns g c m s = c.value_or_zero.ensures ∙ s.state c.args.variable
+returns g c m s = c.value.ensures ∙ s.sitting.state c.args.variable

@@ -1,0 +1,8 @@
+use Rattle.reach.specs.Built.{ReachBuilt}
+use Rattle.judging.proofs.Reached.{GoalsBelow}
+use Rattle.judging.proofs.goals.missed_goal.Given as goal
+
+abbrev pub invariant-loop-variable : goal.invariant-loop-variable
+invariant-loop-variable g l =
+    let t = g.S.TaskSource.task l.source in
+    ReachBuilt t l.reach.table → GoalsBelow t l.variable

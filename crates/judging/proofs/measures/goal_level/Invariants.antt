@@ -1,0 +1,7 @@
+use Rattle.judging.proofs.Levels.{LevelBelow}
+use Rattle.judging.proofs.measures.goal_level.Given as goal
+
+abbrev pub invariant-loop-variable : goal.invariant-loop-variable
+invariant-loop-variable g l =
+    let t = g.S.TaskSource.task l.source in
+    LevelBelow t l.variable l.highest

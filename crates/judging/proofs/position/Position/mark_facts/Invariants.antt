@@ -1,0 +1,7 @@
+use Rattle.judging.specs.Position.{Marked, state_of}
+use Rattle.judging.proofs.position.Position.mark_facts.Given as goal
+
+abbrev pub invariant-loop-variable : goal.invariant-loop-variable
+invariant-loop-variable g l =
+    let t = g.S.TaskSource.task l.source in
+    Marked t l.initial.marks (state_of l.self) l.variable l.marks
