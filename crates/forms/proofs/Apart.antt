@@ -1,5 +1,5 @@
 -- Accepted records name a variable once in each list. Assumes nothing.
-use Rattle.std.proofs.Common.{◌≡◌, ℕ, ◌-◌, Bool, true, false, cond, eqb, ◌⊎◌, List, [], ◌∷◌, ◌++◌, length, get_or, is_some, Some, None, Option, sym, refl, ap, ◌∙◌, subst, inl, inr, ⊎_elim, arith}
+use Rattle.std.proofs.Common.{◌≡◌, ℕ, ◌-◌, Bool, true, false, cond, eqb, ◌⊎◌, List, [], ◌∷◌, ◌++◌, length, get_or, is_some, Some, None, Option, sym, refl, ap, ◌∙◌, subst, inl, inr, ⊎_elim}
 use Rattle.std.specs.List.{AllByRecursion as All}
 use Rattle.std.proofs.lemmas.List.{get_or_past}
 use Rattle.std.proofs.ByRecursion.{All-push, All-set, All-get_or}
@@ -17,20 +17,17 @@ abbrev pub Apart : List Pair → Type 0
 Apart [] = Unit {0}
 Apart (p ∷ ps) = (value_in ps p.variable ≡ None) × Apart ps
 
-no_value : (o : Option ℕ) (x : ℕ) → o ≡ None → o ≡ Some x → ⊥
-no_value o x p q = let z : ◌≡◌ {A = ℕ} 0 1 = cc in omega arith
-
 -- a pair of the list gives the value
 pub apart_mem : (ps : List Pair) (p : Pair) → Apart ps → Mem p ps → value_in ps p.variable ≡ Some p.value
 apart_mem [] p h m = absurd m
 apart_mem (q ∷ ps) p h (inl e) = ap (λ t. cond t (Some q.value) (value_in ps p.variable)) (eq-eqb q.variable p.variable (ap (λ (y : Pair). y.variable) e)) ∙ ap (λ (y : Pair). Some y.value) e
 apart_mem (q ∷ ps) p h (inr m) =
     let found = apart_mem ps p h.1 m in
-    ap (λ t. cond t (Some q.value) (value_in ps p.variable)) (ne_eqb q.variable p.variable (λ e. no_value _ p.value h.0 (ap (value_in ps) e ∙ found))) ∙ found
+    ap (λ t. cond t (Some q.value) (value_in ps p.variable)) (ne_eqb q.variable p.variable (λ e. let same = ap (value_in ps) e ∙ found in cc h.0)) ∙ found
 
 -- and a value comes from a pair of the list
 pub value_mem : (ps : List Pair) (v x : ℕ) → value_in ps v ≡ Some x → Mem (record { variable = v; value = x }) ps
-value_mem [] v x e = absurd (no_value None x refl e)
+value_mem [] v x e = cc
 value_mem (p ∷ ps) v x e = go (λ z. value_mem ps v x z) (eqb p.variable v) refl e
   where
     go : (value_in ps v ≡ Some x → Mem (record { variable = v; value = x }) ps) → (t : Bool) → eqb p.variable v ≡ t → cond t (Some p.value) (value_in ps v) ≡ Some x → (p ≡ record { variable = v; value = x }) ⊎ Mem (record { variable = v; value = x }) ps
@@ -42,7 +39,7 @@ none_push [] p v h n = ap (λ t. cond t (Some p.value) None) (ne_eqb p.variable 
 none_push (q ∷ ps) p v h n = go (λ z. none_push ps p v z n) (eqb q.variable v) h
   where
     go : (value_in ps v ≡ None → value_in (ps ++ p ∷ []) v ≡ None) → (t : Bool) → cond t (Some q.value) (value_in ps v) ≡ None → cond t (Some q.value) (value_in (ps ++ p ∷ []) v) ≡ None
-    go rest true z = absurd (no_value (Some q.value) q.value z refl)
+    go rest true z = cc
     go rest false z = rest z
 
 apart_push : (ps : List Pair) (p : Pair) → Apart ps → value_in ps p.variable ≡ None → Apart (ps ++ p ∷ [])
@@ -50,7 +47,7 @@ apart_push [] p h n = (refl, tt)
 apart_push (q ∷ ps) p h n = go (eqb q.variable p.variable) refl n (λ z. apart_push ps p h.1 z)
   where
     go : (t : Bool) → eqb q.variable p.variable ≡ t → cond t (Some q.value) (value_in ps p.variable) ≡ None → (value_in ps p.variable ≡ None → Apart (ps ++ p ∷ [])) → Apart (q ∷ (ps ++ p ∷ []))
-    go true e z rest = absurd (no_value (Some q.value) q.value z refl)
+    go true e z rest = cc
     go false e z rest = (none_push ps p q.variable h.0 (λ s. eqb-false q.variable p.variable e (sym s)), rest z)
 
 pub record RowApart (r : Row) : Type 0 where
@@ -67,10 +64,7 @@ row_apart b h a = ⊎_elim (λ l. All-get_or RowApart b.rows a no_row l h.rows) 
 
 not_some : (o : Option ℕ) → is_some o ≡ false → o ≡ None
 not_some None e = refl
-not_some (Some x) e = let z : ◌≡◌ {A = Bool} true false = e in absurd (no_bool z)
-  where
-    no_bool : true ≡ false → ⊥
-    no_bool z = let n : ◌≡◌ {A = ℕ} 0 1 = ap (λ b. cond b 0 1) z in omega arith
+not_some (Some x) e = cc
 
 pub apart_put : (k : Kind) (x y : ℕ) (b : Lists) → ListsApart b → repeated k x b ≡ false → ListsApart (put k x y b)
 apart_put Variable x y b h e = record { goals = h.goals; rows = h.rows }

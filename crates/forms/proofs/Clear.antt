@@ -12,7 +12,7 @@ use Rattle.forms.specs.Rules.{in_place, full, some, none}
 use Rattle.forms.specs.Forms.{Cause, first_cause}
 
 no_cause : (t : Bool) (g : Ground) (o : Option Ground) → cond t (Some g) o ≡ None → (t ≡ false) × (o ≡ None)
-no_cause true g o e = let z : ◌≡◌ {A = Bool} true false = cc in (z, cc)
+no_cause true g o e = (cc, cc)
 no_cause false g o e = (refl, e)
 
 pub clear : (cs : List Cause) → first_cause cs ≡ None → All (λ c. c.there ≡ false) cs

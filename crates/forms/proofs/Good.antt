@@ -46,7 +46,7 @@ FitsIn Delete x y b = (0 < length b.rows) × In b.sizes (record { variable = x; 
 
 -- a value that a list of such pairs gives
 found : (sizes : List ℕ) (ps : List Pair) (v x : ℕ) → All (In sizes) ps → value_in ps v ≡ Some x → x < get_or sizes v 0
-found sizes [] v x h e = let z : ◌≡◌ {A = ℕ} 0 1 = cc in absurd (omega arith)
+found sizes [] v x h e = absurd cc
 found sizes (p ∷ ps) v x h e = go (λ e'. found sizes ps v x h.1 e') (eqb p.variable v) refl e
   where
     go : (value_in ps v ≡ Some x → x < get_or sizes v 0) → (t : Bool) → eqb p.variable v ≡ t → cond t (Some p.value) (value_in ps v) ≡ Some x → x < get_or sizes v 0

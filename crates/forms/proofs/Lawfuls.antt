@@ -40,7 +40,7 @@ module _ (f : FormRules) (begins : Begins f) (grows : Grows f) where
   Kept rs = Good (f.lists rs) × (0 < length rs → 0 < length (f.lists rs).sizes)
 
   more : (rs : List Record) (r : Record) → Kept rs → (o : Option Kind) → f.kind r.kind ≡ o → after f o (f.lists rs) r ≡ None → Kept (rs ++ r ∷ [])
-  more rs r g None q e = let z : ◌≡◌ {A = ℕ} 0 1 = cc in absurd (omega arith)
+  more rs r g None q e = absurd cc
   more rs r g (Some k) q e =
       let h = good_put k (f.enters k r).first (f.enters k r).second (f.lists rs) g.0 (fits k (f.lists rs) r e) in
       subst (λ (b : Lists). Good b × (0 < length (rs ++ r ∷ []) → 0 < length b.sizes)) (sym (grows rs r k q)) (h.0, λ _. h.1)
@@ -52,7 +52,7 @@ module _ (f : FormRules) (begins : Begins f) (grows : Grows f) where
       lawful (f.lists rs) g.0 (g.1 l)
 
   more_apart : (qs : List Record) (r : Record) → ListsApart (f.lists qs) → (o : Option Kind) → f.kind r.kind ≡ o → after f o (f.lists qs) r ≡ None → ListsApart (f.lists (qs ++ r ∷ []))
-  more_apart qs r h None q e = let z : ◌≡◌ {A = ℕ} 0 1 = cc in absurd (omega arith)
+  more_apart qs r h None q e = absurd cc
   more_apart qs r h (Some k) q e = subst (λ (b : Lists). ListsApart b) (sym (grows qs r k q)) (apart_put k _ _ (f.lists qs) h (clear (causes f k (f.lists qs) r) e).1.1.1.1.1.1.1.0)
 
   -- each list names a variable once

@@ -6,7 +6,7 @@ use Rattle.records.specs.declared.fault.Ground.{Ground}
 use Rattle.records.specs.Faults.{Form, FirstFault, fault_at, OneVerdict}
 
 clash : (o : Option Ground) (g : Ground) → o ≡ None → o ≡ Some g → ⊥
-clash o g p q = let z : ◌≡◌ {A = ℕ} 0 1 = cc in omega arith
+clash o g p q = cc
 
 module _ (fault : Form) (rs : List Record) where
   abbrev ClearTo : ℕ → Type 0

@@ -1,5 +1,5 @@
 -- What sound records of a sheet say of their task. Assumes nothing.
-use Rattle.std.proofs.Common.{◌≡◌, ℕ, ◌<◌, false, eqb, ◌⊎◌, List, [], map, length, get_or, Some, None, Option, sym, refl, ap, ◌∙◌, subst, inl, inr, arith}
+use Rattle.std.proofs.Common.{◌≡◌, ℕ, ◌<◌, false, eqb, ◌⊎◌, List, [], map, length, get_or, Some, None, Option, sym, refl, ap, ◌∙◌, subst, inl, inr}
 use lib.ListN.{length-map}
 use Rattle.std.proofs.lemmas.List.{get_or-map}
 use Rattle.std.proofs.lemmas.Bool.{lt-ltb}
@@ -64,12 +64,12 @@ module _ (rs : List Record) (s : Sound sheet_fault rs) where
     give_to (Some y) q e = let same : y ≡ x = cc in let h = added y q in inl (sym same ∙ h.0, h.1)
     give_to None q e =
         let h = gives 11 refl lacks a (deletes_8 a) v x e in
-        inr (sym (second h.4), (h.0, h.1, h.2, h.3, first h.4), λ add. let two = adds_is add in let z : ◌≡◌ {A = ℕ} 0 1 = cc in omega arith)
+        inr (sym (second h.4), (h.0, h.1, h.2, h.3, first h.4), λ add. let two = adds_is add in cc)
 
     give_from : (o : Option ℕ) → adds ≡ o → Given → or_else o dels ≡ Some x
     give_from (Some y) q (inl h) = let one = adds_is h.1 in let same : y ≡ 1 = cc in ap Some (same ∙ sym h.0)
     give_from (Some y) q (inr h) = absurd (h.2 (added y q).1)
-    give_from None q (inl h) = let one = adds_is h.1 in let z : ◌≡◌ {A = ℕ} 0 1 = cc in absurd (omega arith)
+    give_from None q (inl h) = let one = adds_is h.1 in absurd cc
     give_from None q (inr h) = takes 11 refl lacks a (deletes_8 a) v x (h.1.0, h.1.1, h.1.2, h.1.3, (h.1.4, sym h.0))
 
   pub sheet_says : SheetSays rs (sheet_task rs)
