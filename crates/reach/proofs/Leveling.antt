@@ -12,7 +12,7 @@ use Rattle.reach.specs.Measures.{levels, layer_of, of_level}
 use Rattle.reach.specs.Relaxed.{Layer, LayerCount, Level}
 use Rattle.reach.proofs.Bound.{stop}
 use Rattle.reach.proofs.LayerFacts.{layer_in, layer_all, reach_layer}
-use Rattle.reach.proofs.Tables.{first_at, next_at, length_layer, same_table, front_value}
+use Rattle.reach.proofs.FactValues.{first_at, next_at, length_layer, same_table, front_value}
 use Rattle.reach.proofs.Thresholds.{Threshold, conditions_hold, conditions_all, raised_sound, raised_keeps, raised_gains}
 
 -- a level at most m, and one that a step leads to it

@@ -1,7 +1,7 @@
 pub mod Sequences
 pub mod LayerFacts
 pub mod Steps
-pub mod Tables
+pub mod FactValues
 pub mod Rounds
 pub mod Thresholds
 pub mod Reaching

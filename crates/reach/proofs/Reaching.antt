@@ -10,7 +10,7 @@ use Rattle.reach.specs.Layering.{value_of, layer, Closed}
 use Rattle.reach.specs.Measures.{reaches, of_yes}
 use Rattle.reach.specs.Relaxed.{Layer, LayerCount, Reach}
 use Rattle.reach.proofs.LayerFacts.{layer_in, layer_all, layer_reach, reach_layer}
-use Rattle.reach.proofs.Tables.{first_at, next_at, length_layer, same_table, front_value}
+use Rattle.reach.proofs.FactValues.{first_at, next_at, length_layer, same_table, front_value}
 use Rattle.reach.proofs.Thresholds.{Threshold, conditions_hold, conditions_all, raised_sound, raised_keeps, raised_gains}
 
 -- two tests that tell the same

@@ -7,7 +7,7 @@ use Rattle.task.specs.Task.{Task, Lawful}
 use Rattle.reach.specs.Measures.{Ops, Laws}
 use Rattle.reach.specs.Layering.{first_value, next, layer, Closed}
 use Rattle.task.proofs.Numbers.{number_of}
-use Rattle.reach.proofs.Tables.{length_layer, getD_tabulated, next_falls}
+use Rattle.reach.proofs.FactValues.{length_layer, getD_tabulated, next_falls}
 
 module _ {M : Type 0} (o : Ops M) (laws : Laws o) {t : Task} (lawful : Lawful t) where
   first_rank : (v x : ℕ) → o.rank (first_value o t v x) ≤ 65535

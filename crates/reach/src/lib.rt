@@ -7,3 +7,4 @@ pub mod layers;
 pub mod measure;
 pub mod reach;
 mod start;
+pub mod tables;

@@ -1,6 +1,6 @@
 use Rattle.std.proofs.Common.{length, ap, ◌∙◌, arith}
 use Rattle.reach.proofs.Built.{front_filled}
-use Rattle.reach.proofs.Tables.{length_layer}
+use Rattle.reach.proofs.FactValues.{length_layer}
 use Rattle.reach.proofs.layers.build_layers.Goals as goal
 
 pub returns : goal.returns

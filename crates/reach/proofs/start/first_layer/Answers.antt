@@ -1,5 +1,5 @@
 use Rattle.std.proofs.Common.{◌∙◌}
-use Rattle.reach.proofs.Tables.{started_first}
+use Rattle.reach.proofs.FactValues.{started_first}
 use Rattle.reach.proofs.start.first_layer.Goals as goal
 
 pub returns : goal.returns
