@@ -21,13 +21,7 @@ pub fn list_line(key: &Key, number: usize, buffer: &mut [u8]) -> Result<usize, L
     if buffer.len() < 32 {
         return Err(ListingRefusal::ShortBuffer(buffer.len()));
     }
-    match line_at(key, number) {
-        Ok(line) => {
-            let Some(written) = write_line(line, buffer) else {
-                return Ok(unreachable());
-            };
-            Ok(written)
-        }
-        Err(count) => Err(ListingRefusal::NoSuchLine(count)),
-    }
+    let line = line_at(key, number).map_err(ListingRefusal::NoSuchLine)?;
+    let written = write_line(line, buffer).unwrap();
+    Ok(written)
 }

@@ -27,9 +27,9 @@ impl ListingRefusal {
         ensures { result ≡ given_back self }
     {
         match self {
-            ListingRefusal::GoalOutOfReach(n) => n,
-            ListingRefusal::ShortBuffer(n) => n,
-            ListingRefusal::NoSuchLine(n) => n,
+            ListingRefusal::GoalOutOfReach(n)
+            | ListingRefusal::ShortBuffer(n)
+            | ListingRefusal::NoSuchLine(n) => n,
         }
     }
 }
