@@ -1,21 +1,22 @@
 -- A line behind a text.
-use Rattle.std.proofs.Common.{◌≡◌, ℕ, ◌+◌, ◌≤◌, cond, List, ◌++◌, length, take, drop, is_ok, IfOk, Ok, Err, Result, sym, ap, ◌∙◌, subst, arith, length-append, take_at}
+use Rattle.std.proofs.Common.{◌≡◌, ℕ, ◌+◌, ◌≤◌, cond, List, ◌++◌, length, take, drop, is_ok, IfOk, Ok, Err, Result, Some, Option, sym, ap, ◌∙◌, subst, take_at}
 use Rattle.task.specs.Task.{Task}
 use Rattle.rules.specs.Machine.{Machine}
 use Rattle.lines.specs.declared.line.Line.{Line}
 use Rattle.lines.specs.Text.{line_text}
+use Rattle.lines.specs.Writing.{InFront}
 use Rattle.key_text.specs.declared.cursor.Cursor.{Cursor}
 use Rattle.listing.specs.Listing.{LineAt}
+use Rattle.listing.proofs.Lining.{front_fits}
 use Rattle.key_text.specs.Cursors.{Stands}
 use Rattle.key_text.specs.Joined.{FirstLines, FirstLines.and_line}
 
--- a text in front of a list is no longer than the whole
-pub front_fits : (before text left : List ℕ) (n : ℕ) → n ≡ length text → left ≡ text ++ drop n before → n ≤ length left
-front_fits before text left n e is = omega (arith, e, ap (λ (xs : List ℕ). length xs) is, length-append text (drop n before))
-
--- the front of that length is the text
-pub front_is : (before text left : List ℕ) (n : ℕ) → n ≡ length text → left ≡ text ++ drop n before → take n left ≡ text
-front_is before text left n e is = ap (take n) is ∙ take_at text (drop n before) n (sym e)
+-- what was written in front: no longer than the whole, and the front of that length is the text
+pub front_is : (before text left : List ℕ) (n : ℕ) (r : Option ℕ) → r ≡ Some n → InFront before text left r → (n ≤ length left) × (take n left ≡ text)
+front_is before text left n r e front = go (subst (InFront before text left) e front)
+  where
+    go : InFront before text left (Some n) → (n ≤ length left) × (take n left ≡ text)
+    go (room, long, is) = (front_fits before text left n long is, ap (take n) is ∙ take_at text (drop n before) n (sym long))
 
 -- what was put behind a text, if it was
 pub appended : {X E : Type 0} (r : Result X E) (before more text left : List ℕ) → left ≡ cond (is_ok r) (before ++ more) before → more ≡ text → IfOk r (λ u. left ≡ before ++ text)

@@ -5,18 +5,17 @@ ghost use Rattle.lines.specs.declared.line.Line.{Line as KeyLine};
 ghost use Rattle.key_text.specs.Cursors.{Passed, Stands, unlisted};
 ghost use Rattle.rules.specs.Machine.{Machine};
 
-use crate::ahead::{next_fact, next_pair};
-use crate::line_of::{fact_line, order_line};
 use key::keys::Key;
 use lines::line::Line;
-use reach::measure::AtLevel;
-use reach::reach::build_levels;
+use listing::fact::fact_line;
+use listing::pair::{PLACES, Pair};
+use reach::tables::LevelTable;
 use task::facts::count_facts;
 
 // Where a listing stands: the levels of the key's task, the lowest fact and the first place of a pair that are still to come.
 #[derive(Drop)]
 pub struct Cursor {
-    levels: [AtLevel; 256],
+    levels: LevelTable,
     fact: usize,
     place: usize,
 }
@@ -26,13 +25,8 @@ impl Cursor {
     pub fn start(key: &Key) -> Cursor
         ensures { (m : Machine) → Shows key.now m → Stands (task_of key.now) m result 0 }
     {
-        let mut levels = [AtLevel { level: 0 }; 256];
-        let mut scratch = [AtLevel { level: 0 }; 256];
-        let Some(_) = build_levels(key.source(), &mut levels, &mut scratch) else {
-            return unreachable();
-        };
         Cursor {
-            levels,
+            levels: LevelTable::of(key.source()),
             fact: 0,
             place: 0,
         }
@@ -43,15 +37,14 @@ impl Cursor {
         ensures passed { (m : Machine) (n : ℕ) → Shows key.now m → Stands (task_of key.now) m self.old n → Passed (task_of key.now) m n self.new result }
         ensures fewer { (x : KeyLine) → result ≡ Some x → unlisted (task_of key.now) self.new < unlisted (task_of key.now) self.old }
     {
-        if let Some(fact) = next_fact(key, self.fact) {
+        let facts = count_facts(key.source());
+        if let Some(fact) = (self.fact..facts).find(|number| key.holds(*number)) {
             self.fact = fact + 1;
             return Some(Line::Fact(fact_line(key, &self.levels, fact)));
         }
-        self.fact = count_facts(key.source());
-        let Some(place) = next_pair(key, self.place) else {
-            return None;
-        };
+        self.fact = facts;
+        let place = (self.place..PLACES).find(|place| Pair::at(*place).is_ordered(key))?;
         self.place = place + 1;
-        Some(Line::Order(order_line(key, place)))
+        Some(Line::Order(Pair::at(place).line(key)))
     }
 }

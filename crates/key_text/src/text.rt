@@ -16,9 +16,7 @@ fn append_line(text: &mut Vec<u8>, line: Line) -> Result<(), AllocError>
     ensures { OnOk result (text.new.items ≡ text.old.items ++ line_text line) }
 {
     let mut buffer = [0; 32];
-    let Some(length) = write_line(line, &mut buffer) else {
-        return Ok(unreachable());
-    };
+    let length = write_line(line, &mut buffer).unwrap();
     text.extend_from_slice(&buffer[..length])
 }
 

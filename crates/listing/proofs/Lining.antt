@@ -74,6 +74,13 @@ says_any m b k e l he hl d = go b (subst (λ (i : ℕ). Decides b (InAnyKind m i
     go true d = sym (or_of _ _ (d.0 refl))
     go false d = sym (false_from_ne_true _ (λ e. false≢true (d.1 (or_cases _ _ e))))
 
+-- so a pair is ordered, or not
+pub is_any : (m : Machine) (k : ℕ) → true ≡ any_kind m k → OrderedAt m k
+is_any m k e = or_cases _ _ (sym e)
+
+pub not_any : (m : Machine) (k : ℕ) → false ≡ any_kind m k → OrderedAt m k → ⊥
+not_any m k e o = false≢true (e ∙ or_of _ _ o)
+
 -- a search by that finds ordered pairs
 pub pairs_sought : (m : Machine) (index : ℕ) (r : Result ℕ ℕ) → Sought (λ k. any_kind m k ≡ true) 65536 index r → Sought (OrderedAt m) 65536 index r
 pairs_sought m index (Ok k) (here, count) = (or_cases _ _ here, count_as (λ j low. or_cases _ _) (λ j low. or_of _ _) count)
