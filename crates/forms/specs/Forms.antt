@@ -1,12 +1,13 @@
 -- What a form has of its own, and the order in which every form's records are tested.
 use Rattle.std.specs.Prelude.{◌≡◌, ℕ, Bool, cond, not, ◌&&◌, List, [], ◌∷◌, ◌++◌, Some, None, Option, ◌==◌, nat_lt}
+use Rattle.task.specs.Task.{Task}
 use Rattle.records.specs.declared.record.Record.{Record}
 use Rattle.records.specs.declared.record.Kind.{Kind}
 use Rattle.records.specs.declared.fault.Refusal.{Refusal}
 use Rattle.records.specs.declared.fault.Refusal.TheVariants as refusal
 use Rattle.records.specs.declared.fault.Ground.{Ground}
 use Rattle.records.specs.Faults.{Form}
-use Rattle.lists.specs.Lists.{Lists, blank}
+use Rattle.lists.specs.Lists.{Lists, blank, task_of}
 use Rattle.lists.specs.Puts.{put}
 use Rattle.forms.specs.declared.form.Entry.{Entry}
 use Rattle.forms.specs.Rules.{in_place, full, wide_first, wide_second, repeated}
@@ -17,6 +18,10 @@ pub record FormRules : Type 0 where
   pub uses : Kind → ℕ
   pub enters : Kind → Record → Entry
   pub lists : List Record → Lists
+
+-- The task that records mean.
+abbrev pub task_by : FormRules → List Record → Task
+task_by f rs = task_of (f.lists rs)
 
 -- A cause to refuse a record, and whether it is there.
 pub record Cause : Type 0 where

@@ -1,6 +1,9 @@
 // What a form of records has of its own.
-ghost use Rattle.std.specs.Prelude.{◌≡◌};
+ghost use Rattle.std.specs.Prelude.{◌≡◌, List};
+ghost use Rattle.task.specs.Task.{Task};
+ghost use Rattle.records.specs.declared.record.Record.{Record as FormRecord};
 ghost use Rattle.forms.specs.Forms.{FormRules, Begins, Grows};
+ghost use Rattle.forms.specs.Laws.{SoundSay};
 
 use records::record::{Kind, Record};
 
@@ -14,6 +17,9 @@ pub struct Entry {
 pub trait RecordForm {
     // The page of the form.
     ghost rules: { FormRules };
+
+    // What records say of their task.
+    ghost says: { List FormRecord → Task → Type 0 };
 
     // The kind that byte 0 tells, if it is one of this form.
     fn kind_of(number: u8) -> Option<Kind>
@@ -32,4 +38,7 @@ pub trait RecordForm {
 
     // One more record adds its entry to the lists.
     ghost grows: { Grows rules };
+
+    // The task of sound records is what they say.
+    ghost told: { SoundSay rules says };
 }

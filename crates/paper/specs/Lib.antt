@@ -1,3 +1,4 @@
 pub mod Paper
 pub mod Meaning
 pub mod Papers
+pub mod Sayings

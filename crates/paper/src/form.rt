@@ -1,6 +1,8 @@
 // The form of papers.
 ghost use Rattle.paper.specs.Paper.{paper_rules};
 ghost use Rattle.paper.specs.Papers.{paper_grows};
+ghost use Rattle.paper.specs.Meaning.{PaperSays};
+ghost use Rattle.paper.specs.Sayings.{paper_says};
 ghost use Rattle.std.specs.Prelude.{refl};
 
 use forms::form::{Entry, RecordForm};
@@ -11,9 +13,13 @@ pub struct PaperForm;
 impl RecordForm for PaperForm {
     ghost rules = { paper_rules };
 
+    ghost says = { PaperSays };
+
     ghost begins = { refl };
 
     ghost grows = { paper_grows };
+
+    ghost told = { paper_says };
 
     fn kind_of(number: u8) -> Option<Kind> {
         match number {

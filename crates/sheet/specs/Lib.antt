@@ -1,3 +1,4 @@
 pub mod Sheet
 pub mod Meaning
 pub mod Sheets
+pub mod Sayings

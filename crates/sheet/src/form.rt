@@ -1,6 +1,8 @@
 // The form of sheets.
 ghost use Rattle.sheet.specs.Sheet.{sheet_rules};
 ghost use Rattle.sheet.specs.Sheets.{sheet_grows};
+ghost use Rattle.sheet.specs.Meaning.{SheetSays};
+ghost use Rattle.sheet.specs.Sayings.{sheet_says};
 ghost use Rattle.std.specs.Prelude.{refl};
 
 use forms::form::{Entry, RecordForm};
@@ -11,9 +13,13 @@ pub struct SheetForm;
 impl RecordForm for SheetForm {
     ghost rules = { sheet_rules };
 
+    ghost says = { SheetSays };
+
     ghost begins = { refl };
 
     ghost grows = { sheet_grows };
+
+    ghost told = { sheet_says };
 
     fn kind_of(number: u8) -> Option<Kind> {
         match number {
