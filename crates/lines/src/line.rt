@@ -2,7 +2,7 @@
 use rules::calls::Kind;
 
 // A fact of the key, by its number, variable and value, and its level at the start, if it has one.
-#[derive(Clone, Copy, Debug, PartialEq)]
+#[derive(Clone, Copy, Debug, PartialEq, Eq)]
 pub struct FactLine {
     pub number: u16,
     pub variable: u16,
@@ -11,14 +11,14 @@ pub struct FactLine {
 }
 
 // Two facts of the key, and the stronger kind in which they are ordered.
-#[derive(Clone, Copy, Debug, PartialEq)]
+#[derive(Clone, Copy, Debug, PartialEq, Eq)]
 pub struct OrderLine {
     pub kind: Kind,
     pub earlier: u16,
     pub later: u16,
 }
 
-#[derive(Clone, Copy, Debug, PartialEq)]
+#[derive(Clone, Copy, Debug, PartialEq, Eq)]
 pub enum Line {
     Fact(FactLine),
     Order(OrderLine),

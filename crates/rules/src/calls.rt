@@ -1,14 +1,14 @@
 // The calls on a key, and what they are answered.
 
 // The kinds of orderings: the earlier fact holds just before the later one first holds, or before each action that achieves it.
-#[derive(Clone, Copy, Debug, PartialEq)]
+#[derive(Clone, Copy, Debug, PartialEq, Eq)]
 pub enum Kind {
     Greedy,
     Necessary,
 }
 
 // Propose a fact; order, by the number of a kind, an earlier and a later fact; begin anew; step by an action; report.
-#[derive(Clone, Copy, Debug, PartialEq)]
+#[derive(Clone, Copy, Debug, PartialEq, Eq)]
 pub enum Call {
     Propose(usize),
     Order(usize, usize, usize),
@@ -17,22 +17,22 @@ pub enum Call {
     Report,
 }
 
-// How a confirmed fact or ordering stands in the key: taken now, or there before.
-#[derive(Clone, Copy, Debug, PartialEq)]
+// How a confirmed fact or ordering stands in the key, with its number: taken now, or there before.
+#[derive(Clone, Copy, Debug, PartialEq, Eq)]
 pub enum Mark {
-    Accepted,
-    Known,
+    Accepted = 1,
+    Known = 2,
 }
 
 // What is left of a sitting: at least so many steps, or no plan goes on from there.
-#[derive(Clone, Copy, Debug, PartialEq)]
+#[derive(Clone, Copy, Debug, PartialEq, Eq)]
 pub enum Remainder {
     AtLeast(u16),
     DeadEnd,
 }
 
 // Where a sitting stands: the steps taken, how many facts of the key they visit, and what is left.
-#[derive(Clone, Copy, Debug, PartialEq)]
+#[derive(Clone, Copy, Debug, PartialEq, Eq)]
 pub struct Standing {
     pub steps: u16,
     pub visited: u16,
@@ -40,7 +40,7 @@ pub struct Standing {
 }
 
 // Why a call is refused, with the number that is returned.
-#[derive(Clone, Copy, Debug, PartialEq)]
+#[derive(Clone, Copy, Debug, PartialEq, Eq)]
 pub enum Refusal {
     // The lowest goal fact out of reach.
     GoalOutOfReach(usize),
@@ -63,7 +63,7 @@ pub enum Refusal {
 }
 
 // What a call is answered.
-#[derive(Clone, Copy, Debug, PartialEq)]
+#[derive(Clone, Copy, Debug, PartialEq, Eq)]
 pub enum Answer {
     Done,
     Marked(Mark),

@@ -9,122 +9,88 @@ pub mod calls;
 pub mod numbers;
 
 // Every plan is a relaxed sequence that has the goal: a task with a plan has its goal in relaxed reach.
-pub fn relaxed_covers_plans() -> u8
+pub fn relaxed_covers_plans()
     ensures { RelaxedCoversPlans }
-{
-    0
-}
+{}
 
 // A fact of a lawful task is in reach exactly when some layer has it.
-pub fn layers_are_reach() -> u8
+pub fn layers_are_reach()
     ensures { LayersAreReach }
-{
-    0
-}
+{}
 
 // One relaxed sequence has the whole goal exactly when each goal fact is in reach.
-pub fn goal_reached_together() -> u8
+pub fn goal_reached_together()
     ensures { GoalReachedTogether }
-{
-    0
-}
+{}
 
 // A fact is a landmark exactly when it holds at the start or, without the actions that achieve it, the goal is out of relaxed reach.
-pub fn landmark_test() -> u8
+pub fn landmark_test()
     ensures { LandmarkTest }
-{
-    0
-}
+{}
 
 // Every goal fact is a landmark.
-pub fn goals_are_landmarks() -> u8
+pub fn goals_are_landmarks()
     ensures { GoalsAreLandmarks }
-{
-    0
-}
+{}
 
 // Every plan of a lawful task visits every landmark.
-pub fn landmarks_visited() -> u8
+pub fn landmarks_visited()
     ensures { LandmarksAreVisited }
-{
-    0
-}
+{}
 
 // Of every relaxed sequence, so of every path, the achievers of a fact count, and the first one for the greedy kind too.
-pub fn achievers_covered() -> u8
+pub fn achievers_covered()
     ensures { AchieversCovered }
-{
-    0
-}
+{}
 
 // With the goal in reach, a landmark outside the start has an achiever that counts, for either kind of ordering.
-pub fn achievers_count() -> u8
+pub fn achievers_count()
     ensures { AchieversCount }
-{
-    0
-}
+{}
 
 // A confirmed necessary ordering is confirmed as a greedy-necessary one too.
-pub fn necessary_is_greedy() -> u8
+pub fn necessary_is_greedy()
     ensures { NecessaryIsGreedy }
-{
-    0
-}
+{}
 
 // A list of actions that keeps an ordering as a necessary one keeps it as a greedy-necessary one too.
-pub fn necessary_keeps_greedy() -> u8
+pub fn necessary_keeps_greedy()
     ensures { NecessaryKeepsGreedy }
-{
-    0
-}
+{}
 
 // Every path of a lawful task, to the goal or not, keeps every confirmed ordering.
-pub fn orderings_kept() -> u8
+pub fn orderings_kept()
     ensures { OrderingsAreKept }
-{
-    0
-}
+{}
 
 // No call has two answers, or leaves two machines.
-pub fn one_answer() -> u8
+pub fn one_answer()
     ensures { OneAnswer }
-{
-    0
-}
+{}
 
 // On a lawful task every call, whatever the machine, has just one answer and leaves just one machine.
-pub fn calls_answered() -> u8
+pub fn calls_answered()
     ensures { CallsAnswered }
-{
-    0
-}
+{}
 
 // On a lawful task every list of calls has just one list of answers and leaves just one machine.
-pub fn sessions_answered() -> u8
+pub fn sessions_answered()
     ensures { SessionsAnswered }
-{
-    0
-}
+{}
 
 // After any list of calls the key holds landmarks alone, and confirmed orderings of them alone, and the moves are a path.
-pub fn keys_kept() -> u8
+pub fn keys_kept()
     ensures { KeysKept }
-{
-    0
-}
+{}
 
 // Where no present action has an effect a report owes nothing, so that it never divides by 0.
-pub fn never_by_zero() -> u8
+pub fn never_by_zero()
     ensures { NeverByZero }
-{
-    0
-}
+{}
 
 // Whatever list of calls is made on a lawful task with the goal in relaxed reach, every plan visits the facts of the key and keeps
 // its orderings, a reported remainder is at most the length of any plan left, a reported dead end has no plan, and a proposed goal
 // fact, or fact that is needed first, is confirmed or known.
-pub fn never_marked_down() -> u8
+pub fn never_marked_down()
     ensures { NeverMarkedDown }
-{
-    0
-}
+{}

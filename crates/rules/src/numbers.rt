@@ -9,15 +9,12 @@ impl Mark {
     pub fn number(self) -> u8
         ensures { result ≡ mark_number self }
     {
-        match self {
-            Mark::Accepted => 1,
-            Mark::Known => 2,
-        }
+        self as u8
     }
 }
 
 impl Refusal {
-    // The number of a refusal.
+    // The number of a refusal, by a `match`: variants that hold a value have no discriminants to cast.
     pub fn number(self) -> u8
         ensures { result ≡ refusal_number self }
     {
@@ -39,15 +36,15 @@ impl Refusal {
         ensures { result ≡ given_back self }
     {
         match self {
-            Refusal::GoalOutOfReach(n) => n,
-            Refusal::NoSuch(n) => n,
-            Refusal::NoLandmark(n) => n,
-            Refusal::OutsideKey(n) => n,
-            Refusal::LaterAtStart(n) => n,
-            Refusal::Unordered(n) => n,
-            Refusal::NoAction(n) => n,
-            Refusal::UnmetCondition(n) => n,
-            Refusal::TooManySteps(n) => n,
+            Refusal::GoalOutOfReach(n)
+            | Refusal::NoSuch(n)
+            | Refusal::NoLandmark(n)
+            | Refusal::OutsideKey(n)
+            | Refusal::LaterAtStart(n)
+            | Refusal::Unordered(n)
+            | Refusal::NoAction(n)
+            | Refusal::UnmetCondition(n)
+            | Refusal::TooManySteps(n) => n,
         }
     }
 }

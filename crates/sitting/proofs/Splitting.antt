@@ -1,43 +1,16 @@
 -- The first word of a line, and the numbers of its words.
-use Rattle.std.proofs.Common.{◌≡◌, ℕ, ◌+◌, ◌-◌, ◌^◌, ◌<◌, ◌≤◌, min, Bool, true, false, not, eqb, List, [], ◌∷◌, ◌++◌, length, get_or, take, drop, Some, None, Decides, sym, refl, ap, ◌∙◌, subst, inl, inr, append-nil, arith, length-append, length-drop, take-append-drop, length-take}
-use mathlib.Core.Bool.{beq}
+use Rattle.std.proofs.Common.{◌≡◌, ℕ, ◌-◌, ◌^◌, ◌<◌, min, Bool, true, false, not, eqb, List, [], ◌∷◌, ◌++◌, length, take, drop, Some, None, Option, Decides, sym, refl, ap, ◌∙◌, subst, inl, inr, append-nil, arith, length-append, length-drop, take-append-drop, length-take}
 use lib.Seq.{take-append_seam, drop-append_seam, take-length}
 use Rattle.std.specs.List.{prefix_len}
-use Rattle.std.proofs.lemmas.List.Sums.{prefix_len-drop_all, prefix_len-drop_no, prefix_len-drop_yes, prefix_len-le-length}
+use Rattle.std.specs.Bool.{then_some}
+use Rattle.std.specs.Option.{MatchOption, is_some}
+use Rattle.std.proofs.lemmas.List.Sums.{prefix_len-le-length}
 use Rattle.std.proofs.lemmas.Bool.{cases_lt, eqb-false, false≢true, not_from_false, not-true, true≢false}
 use Rattle.task.specs.Facts.{Exactly}
 use Rattle.task.proofs.Options.{no_some}
 use Rattle.task.proofs.Lookups.{exactly_none, exactly_some}
 use Rattle.sitting.specs.Lines.{Apart, Blanks, First, Numbers, Word, Words, Writes, Written, blank?, digits_value, of_kind}
 use Rattle.sitting.proofs.Fronts.{Stops, all_leading, stops_leading, leading_front, leading_yes}
-
--- the test of a byte's kind
-kind_yes : (b blanks : Bool) (c : ℕ) → b ≡ blank? c → not (beq b blanks) ≡ false → of_kind blanks c ≡ true
-kind_yes true true c e h = sym e
-kind_yes true false c e h = absurd (true≢false h)
-kind_yes false true c e h = absurd (true≢false h)
-kind_yes false false c e h = ap not (sym e)
-
-kind_no : (b blanks : Bool) (c : ℕ) → b ≡ blank? c → not (beq b blanks) ≡ true → of_kind blanks c ≡ false
-kind_no true true c e h = absurd (false≢true h)
-kind_no true false c e h = ap not (sym e)
-kind_no false true c e h = sym e
-kind_no false false c e h = absurd (false≢true h)
-
--- a loop that counts the bytes of one kind at the front
-pub front_more : (bytes : List ℕ) (blanks b : Bool) (i : ℕ) → i < length bytes → b ≡ blank? (get_or bytes i 0) → not (beq b blanks) ≡ false
-    → i + prefix_len (of_kind blanks) (drop i bytes) ≡ prefix_len (of_kind blanks) bytes → i + 1 + prefix_len (of_kind blanks) (drop (i + 1) bytes) ≡ prefix_len (of_kind blanks) bytes
-front_more bytes blanks b i h e test inv =
-    omega (arith, inv, prefix_len-drop_yes (of_kind blanks) bytes i 0 h (kind_yes b blanks (get_or bytes i 0) e test))
-
-pub front_ends : (bytes : List ℕ) (blanks b : Bool) (i : ℕ) → i < length bytes → b ≡ blank? (get_or bytes i 0) → not (beq b blanks) ≡ true
-    → i + prefix_len (of_kind blanks) (drop i bytes) ≡ prefix_len (of_kind blanks) bytes → i ≡ prefix_len (of_kind blanks) bytes
-front_ends bytes blanks b i h e test inv =
-    omega (arith, inv, prefix_len-drop_no (of_kind blanks) bytes i 0 h (kind_no b blanks (get_or bytes i 0) e test))
-
-pub front_all : (bytes : List ℕ) (blanks : Bool) (i : ℕ) → i ≤ length bytes → length bytes ≤ i
-    → i + prefix_len (of_kind blanks) (drop i bytes) ≡ prefix_len (of_kind blanks) bytes → length bytes ≡ prefix_len (of_kind blanks) bytes
-front_all bytes blanks i low high inv = omega (arith, inv, prefix_len-drop_all (of_kind blanks) bytes i high)
 
 -- what follows the blanks at the front
 abbrev pub text : List ℕ → List ℕ
@@ -185,12 +158,19 @@ no_number g none w rest n f h = no_some n (none.found n (subst (λ x. Writes x n
 pub none_first : {bytes : List ℕ} → ((w rest : List ℕ) (n : ℕ) → First bytes w rest → Writes w n → ⊥) → (n : ℕ) (ns : List ℕ) → Numbers bytes (n ∷ ns) → ⊥
 none_first {bytes} none n ns h = let (w, rest, f, k, more) = first_number bytes n ns h in none w rest n f k
 
-pub one_found : {bytes w rest : List ℕ} {n : ℕ} → First bytes w rest → Writes w n → Decides true (Numbers rest []) → Exactly (λ x. Numbers bytes (x ∷ [])) (Some n)
-one_found {bytes} {n = n} f h done =
-    exactly_some (λ x y p q. let e = numbers_alone bytes (x ∷ []) (y ∷ []) p q in cc) n (numbers_more f h (done.0 refl))
+-- where no word is left there is no number, and where one is there is
+pub done_decides : {bytes : List ℕ} {A : Type 0} (o : Option A) (front rest : A → List ℕ) (b : Bool) → MatchOption o (Blanks bytes) (λ x. First bytes (front x) (rest x))
+    → is_some o ≡ not b → Decides b (Numbers bytes [])
+done_decides None front rest true all e = (λ _. no_numbers all, λ _. refl)
+done_decides None front rest false all e = absurd (false≢true e)
+done_decides (Some x) front rest true f e = absurd (true≢false e)
+done_decides (Some x) front rest false f e = not_done f
 
-pub one_missed : {bytes w rest : List ℕ} → First bytes w rest → Decides false (Numbers rest []) → Exactly (λ x. Numbers bytes (x ∷ [])) None
-one_missed f done = exactly_none (λ x h. false≢true (done.1 (rest_numbers f x [] h)))
+-- the only number, where nothing follows it
+pub one_decided : {bytes w rest : List ℕ} {n : ℕ} (b : Bool) → First bytes w rest → Writes w n → Decides b (Numbers rest []) → Exactly (λ x. Numbers bytes (x ∷ [])) (then_some b n)
+one_decided {bytes} {n = n} true f h done =
+    exactly_some (λ x y p q. let e = numbers_alone bytes (x ∷ []) (y ∷ []) p q in cc) n (numbers_more f h (done.0 refl))
+one_decided false f h done = exactly_none (λ x h. false≢true (done.1 (rest_numbers f x [] h)))
 
 -- the bytes are words that write three numbers
 abbrev pub Three : List ℕ → ℕ × ℕ × ℕ → Type 0

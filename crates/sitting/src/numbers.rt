@@ -11,13 +11,11 @@ fn parse_number(word: &[u8]) -> Option<usize>
 {
     let mut number: usize = 0;
     for byte in word {
-        match *byte {
-            b'0'..=b'9' => {
-                let digit = usize::from(*byte - b'0');
-                number = number.saturating_mul(10).saturating_add(digit);
-            }
-            _ => return None,
+        if !byte.is_ascii_digit() {
+            return None;
         }
+        let digit = usize::from(*byte - b'0');
+        number = number.saturating_mul(10).saturating_add(digit);
     }
     Some(number)
 }
@@ -27,18 +25,14 @@ fn next_number(bytes: &[u8]) -> Option<(usize, &[u8])>
     ensures { MatchOption result ((w rest : List ℕ) (n : ℕ) → First bytes.now w rest → Writes w n → ⊥) (λ x. (w : List ℕ) × First bytes.now w x.1.now × Writes w x.0) }
 {
     let (word, rest) = next_word(bytes)?;
-    let number = parse_number(word)?;
-    Some((number, rest))
+    Some((parse_number(word)?, rest))
 }
 
 // Whether there is no word.
 pub(crate) fn is_done(bytes: &[u8]) -> bool
     ensures { Decides result (Numbers bytes.now []) }
 {
-    match next_word(bytes) {
-        Some(_) => false,
-        None => true,
-    }
+    next_word(bytes).is_none()
 }
 
 // The number that the only word writes.
@@ -46,7 +40,7 @@ pub(crate) fn one_number(bytes: &[u8]) -> Option<usize>
     ensures { Exactly (λ n. Numbers bytes.now (n ∷ [])) result }
 {
     let (number, rest) = next_number(bytes)?;
-    if is_done(rest) { Some(number) } else { None }
+    is_done(rest).then_some(number)
 }
 
 // The numbers that three words write.

@@ -9,7 +9,7 @@ use crate::requests::{Command, Request};
 use crate::words::next_word;
 use rules::calls::Call;
 
-// The command that a word names.
+// The command that a word names; no `TryFrom`, which would need an error where `None` says all.
 fn parse_command(word: &[u8]) -> Option<Command>
     ensures { Exactly (λ x. word.now ≡ word_of x) result }
 {
@@ -29,7 +29,7 @@ fn parse_command(word: &[u8]) -> Option<Command>
 fn without_numbers(request: Request, rest: &[u8]) -> Option<Request>
     ensures { Exactly (λ q. (q ≡ request) × Numbers rest.now []) result }
 {
-    if is_done(rest) { Some(request) } else { None }
+    is_done(rest).then_some(request)
 }
 
 // The request of a command with the numbers that follow it.
@@ -37,19 +37,12 @@ fn parse_numbers(name: Command, rest: &[u8]) -> Option<Request>
     ensures { Exactly (λ q. (command q ≡ name) × Numbers rest.now (numbers q)) result }
 {
     match name {
-        Command::Propose => {
-            let fact = one_number(rest)?;
-            Some(Request::Call(Call::Propose(fact)))
-        }
-        Command::Order => {
-            let (kind, earlier, later) = three_numbers(rest)?;
-            Some(Request::Call(Call::Order(kind, earlier, later)))
-        }
+        Command::Propose => one_number(rest).map(Call::Propose).map(Request::Call),
+        Command::Order => three_numbers(rest)
+            .map(|(kind, earlier, later)| Call::Order(kind, earlier, later))
+            .map(Request::Call),
         Command::Begin => without_numbers(Request::Call(Call::Begin), rest),
-        Command::Step => {
-            let action = one_number(rest)?;
-            Some(Request::Call(Call::Step(action)))
-        }
+        Command::Step => one_number(rest).map(Call::Step).map(Request::Call),
         Command::Report => without_numbers(Request::Call(Call::Report), rest),
         Command::Tally => without_numbers(Request::Tally, rest),
         Command::Held => without_numbers(Request::Held, rest),
@@ -58,6 +51,7 @@ fn parse_numbers(name: Command, rest: &[u8]) -> Option<Request>
 
 // The request that a line means, or `None` where it means none. A line is the word of a command and the numbers that it takes, parted by
 // spaces or carriage returns, which may stand at both ends too. A number is of decimal digits, and one above the largest counts as that.
+// It is no `FromStr`, since there is no more to say of a line that means nothing.
 pub fn parse_request(line: &str) -> Option<Request>
     ensures { Exactly (Means line.now) result }
 {

@@ -2,7 +2,7 @@
 use rules::calls::Call;
 
 // A call on the key, the tally, or what the key holds.
-#[derive(Clone, Copy, Debug, PartialEq)]
+#[derive(Clone, Copy, Debug, PartialEq, Eq)]
 pub enum Request {
     Call(Call),
     Tally,

@@ -6,4 +6,4 @@ use Rattle.table.specs.Table.{table_task}
 
 -- the task of its parts
 abbrev pub held : TaskTable → Task
-held t = table_task (vec_items t.variables) (vec_items t.present) (vec_items t.needs) (vec_items t.effects)
+held t = table_task (vec_items t.variables) (vec_items t.actions)

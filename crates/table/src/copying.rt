@@ -1,13 +1,35 @@
 // Copies a task into a table.
-ghost use Rattle.std.specs.Prelude.{◌≡◌, ◌*◌, ◌/◌, ◌%◌, IfOk};
+ghost use Rattle.std.specs.List.{range_with_len};
+ghost use Rattle.std.specs.Prelude.{◌≡◌, ℕ, ◌<◌, IfOk, None, Some, map, slice_index_or};
 ghost use Rattle.table.specs.Meaning.{held};
-ghost use Rattle.table.specs.Table.{Filled, variable_of};
+ghost use Rattle.table.specs.Table.{Copied, Filled, variable_of};
 
+use crate::action::{Action, PLACES};
 use crate::task_table::TaskTable;
-use crate::values::{WIDTH, narrow};
 use crate::variable::Variable;
 use std::alloc::{AllocError, Global};
 use task::task_source::TaskSource;
+
+// The same value in one byte.
+fn narrow(value: Option<usize>) -> Option<u8>
+    requires { (x : ℕ) → value ≡ Some x → x < 256 }
+    ensures { result ≡ value }
+{
+    value.map(|x| x as u8)
+}
+
+// The values that are answered for each variable that there may be.
+fn copy_values<F: Fn(usize) -> Option<usize>>(answer: F) -> [Option<u8>; PLACES]
+    requires callable { F.IsAlwaysCallable answer }
+    requires small { (v x : ℕ) → v < 64 → F.post answer v (Some x) → x < 256 }
+    ensures { (v : ℕ) → v < 64 → F.post answer v (slice_index_or result v None) }
+{
+    let mut values = [None; PLACES];
+    for (variable, value) in values.iter_mut().enumerate() {
+        *value = narrow(answer(variable));
+    }
+    values
+}
 
 // What the source answers of one variable.
 fn copy_variable<S: TaskSource>(source: &S, variable: usize) -> Variable
@@ -20,48 +42,35 @@ fn copy_variable<S: TaskSource>(source: &S, variable: usize) -> Variable
     }
 }
 
+// What the source answers of one action.
+fn copy_action<S: TaskSource>(source: &S, action: usize) -> Action
+    ensures { Copied (S.task source.now) action result }
+{
+    Action {
+        present: source.is_present(action),
+        needs: copy_values(|variable| source.need(action, variable)),
+        effects: copy_values(|variable| source.effect(action, variable)),
+    }
+}
+
 // What the source answers of every variable.
 fn copy_variables<S: TaskSource>(heap: Global, source: &S) -> Result<Vec<Variable>, AllocError>
-    ensures { IfOk result (λ vs. Filled (S.task source.now).vars (variable_of (S.task source.now)) vs.items) }
+    ensures { IfOk result (λ vs. vs.items ≡ map (variable_of (S.task source.now)) (range_with_len 0 (S.task source.now).vars)) }
 {
-    let mut variables = Vec::new(heap);
-    for variable in 0..source.variables() {
-        variables.push(copy_variable(source, variable))?;
-    }
-    Ok(variables)
+    (0..source.variables())
+        .map(|variable| copy_variable(source, variable))
+        .collect(heap)
 }
 
-// Which numbers are actions.
-fn copy_present<S: TaskSource>(heap: Global, source: &S) -> Result<Vec<bool>, AllocError>
-    ensures { IfOk result (λ ps. Filled (S.task source.now).actions (S.task source.now).present ps.items) }
+// What the source answers of every action.
+fn copy_actions<S: TaskSource>(heap: Global, source: &S) -> Result<Vec<Action>, AllocError>
+    ensures { IfOk result (λ xs. Filled (S.task source.now).actions (Copied (S.task source.now)) xs.items) }
 {
-    let mut present = Vec::new(heap);
+    let mut actions = Vec::new(heap);
     for action in 0..source.actions() {
-        present.push(source.is_present(action))?;
+        actions.push(copy_action(source, action))?;
     }
-    Ok(present)
-}
-
-// What the actions need of every variable.
-fn copy_needs<S: TaskSource>(heap: Global, source: &S) -> Result<Vec<Option<u8>>, AllocError>
-    ensures { IfOk result (λ ns. Filled ((S.task source.now).actions * 64) (λ k. (S.task source.now).need (k / 64) (k % 64)) ns.items) }
-{
-    let mut needs = Vec::new(heap);
-    for place in 0..source.actions() * WIDTH {
-        needs.push(narrow(source.need(place / WIDTH, place % WIDTH)))?;
-    }
-    Ok(needs)
-}
-
-// What the actions give to every variable.
-fn copy_effects<S: TaskSource>(heap: Global, source: &S) -> Result<Vec<Option<u8>>, AllocError>
-    ensures { IfOk result (λ es. Filled ((S.task source.now).actions * 64) (λ k. (S.task source.now).give (k / 64) (k % 64)) es.items) }
-{
-    let mut effects = Vec::new(heap);
-    for place in 0..source.actions() * WIDTH {
-        effects.push(narrow(source.effect(place / WIDTH, place % WIDTH)))?;
-    }
-    Ok(effects)
+    Ok(actions)
 }
 
 impl TaskTable {
@@ -70,14 +79,7 @@ impl TaskTable {
         ensures { IfOk result (λ table. held table ≡ S.task source.now) }
     {
         let variables = copy_variables(heap, source)?;
-        let present = copy_present(heap, source)?;
-        let needs = copy_needs(heap, source)?;
-        let effects = copy_effects(heap, source)?;
-        Ok(TaskTable {
-            variables,
-            present,
-            needs,
-            effects,
-        })
+        let actions = copy_actions(heap, source)?;
+        Ok(TaskTable { variables, actions })
     }
 }

@@ -5,7 +5,6 @@ ghost use Rattle.table.specs.Table.{no_variable};
 ghost use Rattle.task.specs.Single.{is_lawful};
 
 use crate::task_table::TaskTable;
-use crate::values::{value_at, widen};
 use crate::variable::Variable;
 use task::task_source::TaskSource;
 
@@ -14,15 +13,7 @@ impl TaskTable {
     fn variable_at(&self, variable: usize) -> Variable
         ensures { result ≡ slice_index_or self.now.variables.items variable no_variable }
     {
-        if variable < self.variables() {
-            self.variables[variable]
-        } else {
-            Variable {
-                size: 0,
-                start: 0,
-                goal: None,
-            }
-        }
+        self.variables.get(variable).copied().unwrap_or_default()
     }
 }
 
@@ -44,26 +35,26 @@ impl TaskSource for TaskTable {
     }
 
     fn goal(&self, variable: usize) -> Option<usize> {
-        widen(self.variable_at(variable).goal)
+        self.variable_at(variable).goal.map(usize::from)
     }
 
     fn actions(&self) -> usize {
-        self.present.len()
+        self.actions.len()
     }
 
     fn is_present(&self, action: usize) -> bool {
-        if action < self.actions() {
-            self.present[action]
-        } else {
-            false
-        }
+        self.actions
+            .get(action)
+            .is_some_and(|action| action.present)
     }
 
     fn need(&self, action: usize, variable: usize) -> Option<usize> {
-        value_at(self.needs.as_slice(), self.actions(), action, variable)
+        let value = self.actions.get(action)?.needs.get(variable)?;
+        value.map(usize::from)
     }
 
     fn effect(&self, action: usize, variable: usize) -> Option<usize> {
-        value_at(self.effects.as_slice(), self.actions(), action, variable)
+        let value = self.actions.get(action)?.effects.get(variable)?;
+        value.map(usize::from)
     }
 }

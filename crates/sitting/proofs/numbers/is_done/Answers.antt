@@ -1,5 +1,5 @@
-use Rattle.sitting.proofs.Splitting.{not_done}
+use Rattle.sitting.proofs.Splitting.{done_decides}
 use Rattle.sitting.proofs.numbers.is_done.Goals as goal
 
-pub returns-in-Some : goal.returns-in-Some
-returns-in-Some c = not_done c.in-Some.ensures
+pub returns : goal.returns
+returns c = done_decides c.next_word.result (λ x. x.0.now) (λ x. x.1.now) c.is_none.result c.next_word.ensures c.is_none.ensures

@@ -1,37 +1,28 @@
-use Rattle.std.proofs.Common.{Some, None, refl}
+use Rattle.std.proofs.Common.{◌≡◌, refl, rules}
+use Rattle.std.specs.Option.{option_map}
 use Rattle.rules.specs.declared.calls.Call.TheVariants as call
 use Rattle.sitting.specs.declared.requests.Command.TheVariants.{Propose, Begin, Step, Report, Tally, Held}
 use Rattle.sitting.specs.declared.requests.Request.TheVariants as request
-use Rattle.sitting.proofs.Choosing.{asks_at, asks_none, asks_one, asks_three}
+use Rattle.sitting.proofs.Choosing.{asks_at, asks_none, asks_one, asks_three, order}
 use Rattle.sitting.proofs.parsing.parse_numbers.Goals as goal
 
-pub returns-in_err-fact-in-Propose : goal.returns-in_err-fact-in-Propose
-returns-in_err-fact-in-Propose c =
-    rw c.from_residual.ensures
-    (asks_at c.in-Propose.is (asks_one Propose (λ n. request.Call (call.Propose n)) c.args.rest.now (λ n. refl) (λ n. refl) (λ ns. refl) None c.in_err-fact-in-Propose.ensures))
+pub returns-in-Propose : goal.returns-in-Propose
+returns-in-Propose c =
+    let is : c.map-in-Propose.result ≡ option_map (λ n. request.Call (call.Propose n)) c.one_number.result = search rules in
+    rw is
+    (asks_at c.in-Propose.is (asks_one Propose (λ n. request.Call (call.Propose n)) c.args.rest.now (λ n. refl) (λ n. refl) (λ ns. refl) c.one_number.result c.one_number.ensures))
 
-pub returns-in_ok-fact-in-Propose : goal.returns-in_ok-fact-in-Propose
-returns-in_ok-fact-in-Propose c =
-    asks_at c.in-Propose.is
-    (asks_one Propose (λ n. request.Call (call.Propose n)) c.args.rest.now (λ n. refl) (λ n. refl) (λ ns. refl) (Some c.in_ok-fact-in-Propose.fact) c.in_ok-fact-in-Propose.ensures)
+pub returns-in-Order : goal.returns-in-Order
+returns-in-Order c =
+    let is : c.map-in-Order-2.result ≡ option_map order c.three_numbers.result = search rules in
+    rw is
+    (asks_at c.in-Order.is (asks_three c.args.rest.now c.three_numbers.result c.three_numbers.ensures))
 
-pub returns-in_err-kind-in-Order : goal.returns-in_err-kind-in-Order
-returns-in_err-kind-in-Order c = rw c.from_residual-in_err-kind-in-Order.ensures (asks_at c.in-Order.is (asks_three c.args.rest.now None c.in_err-kind-in-Order.ensures))
-
-pub returns-in_ok-kind-in-Order : goal.returns-in_ok-kind-in-Order
-returns-in_ok-kind-in-Order c =
-    let x = c.in_ok-kind-in-Order in
-    asks_at c.in-Order.is (asks_three c.args.rest.now (Some (x.kind, x.earlier, x.later)) x.ensures)
-
-pub returns-in_err-action-in-Step : goal.returns-in_err-action-in-Step
-returns-in_err-action-in-Step c =
-    rw c.from_residual-in_err-action-in-Step.ensures
-    (asks_at c.in-Step.is (asks_one Step (λ n. request.Call (call.Step n)) c.args.rest.now (λ n. refl) (λ n. refl) (λ ns. refl) None c.in_err-action-in-Step.ensures))
-
-pub returns-in_ok-action-in-Step : goal.returns-in_ok-action-in-Step
-returns-in_ok-action-in-Step c =
-    asks_at c.in-Step.is
-    (asks_one Step (λ n. request.Call (call.Step n)) c.args.rest.now (λ n. refl) (λ n. refl) (λ ns. refl) (Some c.in_ok-action-in-Step.action) c.in_ok-action-in-Step.ensures)
+pub returns-in-Step : goal.returns-in-Step
+returns-in-Step c =
+    let is : c.map-in-Step-2.result ≡ option_map (λ n. request.Call (call.Step n)) c.one_number-in-Step.result = search rules in
+    rw is
+    (asks_at c.in-Step.is (asks_one Step (λ n. request.Call (call.Step n)) c.args.rest.now (λ n. refl) (λ n. refl) (λ ns. refl) c.one_number-in-Step.result c.one_number-in-Step.ensures))
 
 pub returns-in-Begin : goal.returns-in-Begin
 returns-in-Begin c =

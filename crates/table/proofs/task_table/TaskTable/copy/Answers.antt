@@ -6,13 +6,10 @@ pub invariant_of-result : goal.invariant_of-result
 invariant_of-result g c =
     let lawful = g.S.TaskSource.lawful c.args.source.now in
     let vs = vec_items c.in_ok-variables.variables in
-    let ps = vec_items c.in_ok-present.present in
-    let ns = vec_items c.in_ok-needs.needs in
-    let es = vec_items c.in_ok-effects.effects in
-    record { lawful = same_lawful lawful vs ps ns es (same_task lawful vs ps ns es c.in_ok-variables.ensures c.in_ok-present.ensures c.in_ok-needs.ensures c.in_ok-effects.ensures) }
+    let xs = vec_items c.in_ok-actions.actions in
+    record { lawful = same_lawful lawful vs xs (same_task lawful vs xs c.in_ok-variables.ensures c.in_ok-actions.ensures) }
 
 pub returns : goal.returns
 returns g c =
-    same_task (g.S.TaskSource.lawful c.args.source.now) (vec_items c.in_ok-variables.variables)
-    (vec_items c.in_ok-present.present) (vec_items c.in_ok-needs.needs) (vec_items c.in_ok-effects.effects)
-    c.in_ok-variables.ensures c.in_ok-present.ensures c.in_ok-needs.ensures c.in_ok-effects.ensures
+    same_task (g.S.TaskSource.lawful c.args.source.now) (vec_items c.in_ok-variables.variables) (vec_items c.in_ok-actions.actions)
+    c.in_ok-variables.ensures c.in_ok-actions.ensures
