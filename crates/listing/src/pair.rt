@@ -12,7 +12,7 @@ use rules::calls::Kind;
 pub const PLACES: usize = 65536;
 
 // Two facts by their numbers, the earlier one first.
-#[derive(Clone, Copy)]
+#[derive(Clone, Copy, Debug, PartialEq, Eq)]
 pub struct Pair {
     pub earlier: usize,
     pub later: usize,
