@@ -5,8 +5,7 @@ ghost use Rattle.std.specs.Prelude.{IfOk};
 ghost use Rattle.task.specs.Task.{facts};
 
 use crate::account::{Account, Counts, FactLevel};
-use reach::measure::AtLevel;
-use reach::reach::build_levels;
+use reach::tables::LevelTable;
 use std::alloc::{AllocError, Global};
 use task::facts::{count_facts, fact_at};
 use task::task_source::TaskSource;
@@ -15,17 +14,15 @@ use task::task_source::TaskSource;
 fn list_levels<S: TaskSource>(
     heap: Global,
     source: &S,
-    levels: &[AtLevel; 256],
+    levels: &LevelTable,
 ) -> Result<Vec<FactLevel>, AllocError>
-    requires { LevelsBuilt (S.task source.now) levels.now }
+    requires { LevelsBuilt (S.task source.now) levels.now.table }
     ensures { IfOk result (λ v. Listed (S.task source.now) (facts (S.task source.now)) v.items) }
 {
     let mut list = Vec::new(heap);
     for number in 0..count_facts(source) {
-        let Some(fact) = fact_at(source, number) else {
-            return Ok(unreachable());
-        };
-        let level = levels[number].layer();
+        let fact = fact_at(source, number).unwrap();
+        let level = levels.level(number);
         list.push(FactLevel {
             number,
             fact,
@@ -39,16 +36,12 @@ fn list_levels<S: TaskSource>(
 pub fn account_of<S: TaskSource>(heap: Global, source: &S) -> Result<Account, AllocError>
     ensures { IfOk result (AccountOf (S.task source.now)) }
 {
-    let mut levels = [AtLevel { level: 0 }; 256];
-    let mut scratch = [AtLevel { level: 0 }; 256];
-    let Some(layers) = build_levels(source, &mut levels, &mut scratch) else {
-        return Ok(unreachable());
-    };
+    let levels = LevelTable::of(source);
     let counts = Counts {
         variables: source.variables(),
         facts: count_facts(source),
         actions: source.actions(),
-        layers,
+        layers: levels.layers(),
     };
     Ok(Account {
         counts,

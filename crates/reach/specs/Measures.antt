@@ -2,6 +2,9 @@
 use Rattle.std.specs.Prelude.{◌≡◌, ℕ, ◌+◌, ◌<◌, ◌≤◌, min, max, Bool, true, false, cond, ◌&&◌, ◌||◌, ◌⊎◌, Some, None, Option, ◌==◌, refl}
 use Rattle.std.proofs.Common.{ap, inl, inr, arith}
 use Rattle.std.proofs.lemmas.Bool.{cases_lt, cond_both}
+use Rattle.std.proofs.lemmas.Bool.Decides.{Decides-eqb}
+use Rattle.std.specs.Bool.{Decides, beq}
+use Rattle.std.specs.Cmp.{booleans_Decides}
 use Rattle.reach.specs.declared.measure.AtLevel.{AtLevel}
 use Rattle.reach.specs.declared.measure.InReach.{InReach}
 
@@ -120,6 +123,10 @@ reach_laws = record {
   step_proper = λ x h. h;
 }
 
+-- equal values are the same, since they hold the same
+pub reach_same : (x y : InReach) → Decides (beq x.yes y.yes) (x ≡ y)
+reach_same x y = let d = booleans_Decides x.yes y.yes in (λ e. ap of_yes (d.0 e), λ e. d.1 (ap (λ (r : InReach). r.yes) e))
+
 -- in which layer a fact is first, 65535 for none
 abbrev pub of_level : ℕ → AtLevel
 of_level n = record { level = n }
@@ -156,6 +163,9 @@ level_laws = record {
   better_proper = λ x y h k. omega arith;
   step_proper = λ x h. omega arith;
 }
+
+pub level_same : (x y : AtLevel) → Decides (x.level == y.level) (x ≡ y)
+level_same x y = let d = Decides-eqb x.level y.level in (λ e. ap of_level (d.0 e), λ e. d.1 (ap (λ (r : AtLevel). r.level) e))
 
 -- the layer that a level stands for, if any
 abbrev pub layer_of : AtLevel → Option ℕ

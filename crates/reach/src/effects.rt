@@ -6,7 +6,7 @@ ghost use Rattle.task.specs.Task.{facts};
 use crate::measure::Measure;
 use task::task_source::TaskSource;
 
-// Puts the better of the two values in the place of the value at an index.
+// Puts the better of the two values in the place of the value at an index: one write, which the loop below is proved by.
 fn improve<M: Measure>(values: &mut [M], index: usize, value: M)
     requires { index < length values.old }
     ensures { values.new ≡ slice_set values.old index (M.ops.better (slice_index_or values.old index M.ops.none) value) }
@@ -20,6 +20,7 @@ pub(crate) fn offer<S: TaskSource, M: Measure>(source: &S, action: usize, value:
     requires { length next.old ≡ facts (S.task source.now) }
     ensures { next.new ≡ offered M.ops (S.task source.now) action value next.old (S.task source.now).vars }
 {
+    // The offset runs along, since `source.offset` would sum the sizes anew for each variable.
     let mut offset = 0;
     for variable in 0..source.variables() {
         if let Some(effect) = source.effect(action, variable) {

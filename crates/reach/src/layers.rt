@@ -2,7 +2,7 @@
 ghost use Rattle.reach.specs.Built.{LayersBuilt, TooShort};
 ghost use Rattle.reach.specs.Layering.{Closed, layer, next as after};
 ghost use Rattle.reach.specs.Working.{acted};
-ghost use Rattle.std.specs.Prelude.{◌≡◌, length, Decides, MatchOption};
+ghost use Rattle.std.specs.Prelude.{◌≡◌, length, MatchOption};
 ghost use Rattle.task.specs.Task.{facts};
 
 use crate::conditions::join_conditions;
@@ -11,6 +11,8 @@ use crate::measure::Measure;
 use crate::start::first_layer;
 use task::facts::count_facts;
 use task::task_source::TaskSource;
+
+// The length of a table stands in each contract here: a struct with that fact would be made anew for each slice that is lent.
 
 // Offers what each present action makes of `values` to its effects.
 fn act<S: TaskSource, M: Measure>(source: &S, values: &[M], next: &mut [M])
@@ -34,19 +36,6 @@ fn next_layer<S: TaskSource, M: Measure>(source: &S, values: &[M], next: &mut [M
     act(source, values, next);
 }
 
-// Whether two layers are the same.
-fn same_layer<M: Measure>(values: &[M], others: &[M]) -> bool
-    requires { length values.now ≡ length others.now }
-    ensures { Decides result (values.now ≡ others.now) }
-{
-    for i in 0..values.len() {
-        if !values[i].is_same(others[i]) {
-            return false;
-        }
-    }
-    true
-}
-
 // Fills both tables with the layer that equals its next, and says how many layers there are before it.
 fn run_layers<S: TaskSource, M: Measure>(source: &S, values: &mut [M], scratch: &mut [M]) -> usize
     requires values { length values.old ≡ facts (S.task source.now) }
@@ -56,10 +45,11 @@ fn run_layers<S: TaskSource, M: Measure>(source: &S, values: &mut [M], scratch: 
     ensures closed { Closed M.ops (S.task source.now) result }
 {
     first_layer(source, values);
+    // A count and no index: the loop ends where a layer stays, which no range says beforehand.
     let mut layers = 0;
     loop {
         next_layer(source, values, scratch);
-        if same_layer(values, scratch) {
+        if &*values == &*scratch {
             return layers;
         }
         values.copy_from_slice(scratch);

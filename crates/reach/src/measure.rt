@@ -1,8 +1,8 @@
 // What a fact is worth in a layer, and how the worth of an action's conditions makes that of its effects.
-ghost use Rattle.reach.specs.Measures.{Laws, Ops, layer_of, level_laws, levels, reach_laws, reaches};
+ghost use Rattle.reach.specs.Measures.{Laws, Ops, layer_of, level_laws, level_same, levels, reach_laws, reach_same, reaches};
 ghost use Rattle.std.specs.Prelude.{◌≡◌, Decides};
 
-pub trait Measure: Copy {
+pub trait Measure: Copy + PartialEq {
     // What the functions below compute.
     ghost ops: { Ops Self };
 
@@ -33,19 +33,19 @@ pub trait Measure: Copy {
     fn stepped(self) -> Self
         ensures { result ≡ ops.step self };
 
-    // Whether two values are the same.
-    fn is_same(self, other: Self) -> bool
-        ensures { Decides result (self ≡ other) };
+    // Two values are equal exactly where they are the same.
+    ghost eq_law: { (x y : Self) → Decides (Self.PartialEq.eq x y) (x ≡ y) };
 }
 
 // Whether a fact is in reach.
-#[derive(Clone, Copy)]
+#[derive(Debug, Clone, Copy, PartialEq, Eq)]
 pub struct InReach {
     pub yes: bool,
 }
 
 // In which layer a fact is first, 65535 for none.
-#[derive(Clone, Copy)]
+// No `Option`: a step saturates at 65535, where an optional number would need a bound beside it.
+#[derive(Debug, Clone, Copy, PartialEq, Eq)]
 pub struct AtLevel {
     pub level: u16,
 }
@@ -67,6 +67,8 @@ impl Measure for InReach {
     ghost ops = { reaches };
 
     ghost laws = { reach_laws };
+
+    ghost eq_law = { reach_same };
 
     fn at_start() -> InReach {
         InReach { yes: true }
@@ -95,16 +97,14 @@ impl Measure for InReach {
     fn stepped(self) -> InReach {
         self
     }
-
-    fn is_same(self, other: InReach) -> bool {
-        self.yes == other.yes
-    }
 }
 
 impl Measure for AtLevel {
     ghost ops = { levels };
 
     ghost laws = { level_laws };
+
+    ghost eq_law = { level_same };
 
     fn at_start() -> AtLevel {
         AtLevel { level: 0 }
@@ -134,9 +134,5 @@ impl Measure for AtLevel {
         AtLevel {
             level: self.level.saturating_add(1),
         }
-    }
-
-    fn is_same(self, other: AtLevel) -> bool {
-        self.level == other.level
     }
 }

@@ -1,4 +1,5 @@
 // Which facts are in relaxed reach, and from which layer on.
+// Two calls of one generic function: what they promise differs, since each measure has a theorem of its own.
 ghost use Rattle.reach.specs.Built.{FactsBuilt, LevelsBuilt, ReachBuilt, TooShort};
 ghost use Rattle.std.specs.Option.{MatchOption};
 

@@ -11,12 +11,13 @@ use task::task_source::TaskSource;
 fn clear<M: Measure>(values: &mut [M])
     ensures { (k : ℕ) → k < length values.new → slice_index_or values.new k M.ops.none ≡ M.ops.none }
 {
+    // `fill` asks for a `clone` that cannot fail, which a measure's bounds do not say.
     for value in values.iter_mut() {
         *value = M::unreached();
     }
 }
 
-// Sets the value at an index.
+// Sets the value at an index: one write, which the loop below is proved by.
 fn put<M: Measure>(values: &mut [M], index: usize, value: M)
     requires { index < length values.old }
     ensures { values.new ≡ slice_set values.old index value }
@@ -29,6 +30,7 @@ fn mark_start<S: TaskSource, M: Measure>(source: &S, values: &mut [M])
     requires { length values.old ≡ facts (S.task source.now) }
     ensures { values.new ≡ started M.ops (S.task source.now) values.old (S.task source.now).vars }
 {
+    // The offset runs along, since `source.offset` would sum the sizes anew for each variable.
     let mut offset = 0;
     for variable in 0..source.variables() {
         put(values, offset + source.start(variable), M::at_start());

@@ -37,6 +37,7 @@ impl<S: TaskSource> Barred<S> {
     }
 }
 
+// What is passed on is written out: the language has no delegation, and an own macro may write no `impl`.
 impl<S: TaskSource> TaskSource for Barred<S> {
     ghost task = { λ s. barred_by (S.TaskSource.task s.inner) s.fact };
 
@@ -63,13 +64,8 @@ impl<S: TaskSource> TaskSource for Barred<S> {
     }
 
     fn is_present(&self, action: usize) -> bool {
-        if !self.inner.is_present(action) {
-            return false;
-        }
-        match self.fact {
-            Some(fact) => self.inner.effect(action, fact.variable) != Some(fact.value),
-            None => true,
-        }
+        let is_kept = |fact: Fact| self.inner.effect(action, fact.variable) != Some(fact.value);
+        self.inner.is_present(action) && self.fact.is_none_or(is_kept)
     }
 
     fn need(&self, action: usize, variable: usize) -> Option<usize> {
@@ -78,29 +74,5 @@ impl<S: TaskSource> TaskSource for Barred<S> {
 
     fn effect(&self, action: usize, variable: usize) -> Option<usize> {
         self.inner.effect(action, variable)
-    }
-
-    fn offset(&self, variable: usize) -> usize {
-        self.inner.offset(variable)
-    }
-
-    fn next_need(&self, action: usize, variable: usize) -> Option<Fact> {
-        self.inner.next_need(action, variable)
-    }
-
-    fn next_effect(&self, action: usize, variable: usize) -> Option<Fact> {
-        self.inner.next_effect(action, variable)
-    }
-
-    fn next_user(&self, fact: Fact, action: usize) -> Option<usize> {
-        self.inner.next_user(fact, action)
-    }
-
-    fn next_achiever(&self, fact: Fact, action: usize) -> Option<usize> {
-        self.inner.next_achiever(fact, action)
-    }
-
-    fn count_needs(&self, action: usize) -> usize {
-        self.inner.count_needs(action)
     }
 }

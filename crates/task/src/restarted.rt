@@ -3,19 +3,7 @@ ghost use Rattle.std.specs.Prelude.{◌≡◌, slice_index};
 ghost use Rattle.task.specs.Limits.{restarted_lawful};
 ghost use Rattle.task.specs.Paths.{restarted as from};
 
-use crate::facts::Fact;
 use crate::task_source::TaskSource;
-
-// The value at an index, or 0 past the end.
-fn value_or_zero(values: &[usize], index: usize) -> usize
-    ensures { result ≡ slice_index values.now index }
-{
-    if index < values.len() {
-        values[index]
-    } else {
-        0
-    }
-}
 
 #[derive(Drop)]
 pub struct Restarted<'a, S> {
@@ -33,6 +21,7 @@ impl<'a, S: TaskSource> Restarted<'a, S> {
     }
 }
 
+// What is passed on is written out: the language has no delegation, and an own macro may write no `impl`.
 impl<'a, S: TaskSource> TaskSource for Restarted<'a, S> {
     ghost task = { λ s. from (S.TaskSource.task s.inner) (λ v. slice_index s.state.now v) };
 
@@ -47,11 +36,12 @@ impl<'a, S: TaskSource> TaskSource for Restarted<'a, S> {
     }
 
     fn start(&self, variable: usize) -> usize {
-        let value = value_or_zero(self.state, variable);
-        if value >= self.inner.size(variable) {
-            return 0;
-        }
-        value
+        let is_value = |&value: &usize| value < self.inner.size(variable);
+        self.state
+            .get(variable)
+            .copied()
+            .filter(is_value)
+            .unwrap_or(0)
     }
 
     fn goal(&self, variable: usize) -> Option<usize> {
@@ -72,29 +62,5 @@ impl<'a, S: TaskSource> TaskSource for Restarted<'a, S> {
 
     fn effect(&self, action: usize, variable: usize) -> Option<usize> {
         self.inner.effect(action, variable)
-    }
-
-    fn offset(&self, variable: usize) -> usize {
-        self.inner.offset(variable)
-    }
-
-    fn next_need(&self, action: usize, variable: usize) -> Option<Fact> {
-        self.inner.next_need(action, variable)
-    }
-
-    fn next_effect(&self, action: usize, variable: usize) -> Option<Fact> {
-        self.inner.next_effect(action, variable)
-    }
-
-    fn next_user(&self, fact: Fact, action: usize) -> Option<usize> {
-        self.inner.next_user(fact, action)
-    }
-
-    fn next_achiever(&self, fact: Fact, action: usize) -> Option<usize> {
-        self.inner.next_achiever(fact, action)
-    }
-
-    fn count_needs(&self, action: usize) -> usize {
-        self.inner.count_needs(action)
     }
 }

@@ -1,5 +1,6 @@
 use Rattle.std.proofs.Common.{◌≡◌, sum_by, sym, ap, ◌∙◌, arith}
 use Rattle.std.proofs.lemmas.Bool.{both_ways}
+use Rattle.std.specs.Cmp.Lexicographic.{pointwise_decides}
 use Rattle.reach.proofs.Rounds.{first_ranks, round_layer, round_falls, round_least, round_closed}
 use Rattle.reach.proofs.layers.run_layers.Goals as goal
 
@@ -25,7 +26,7 @@ loop-layers-preserved g c =
     let was = c.loop-layers.invariant.0 in
     let is = c.next_layer.ensures in
     let copied = c.copy_from_slice.ensures.after in
-    let differs : c.loop-layers.values ≡ c.next_layer.new.next → ⊥ = λ e. both_ways c.same_layer.result c.if-same_layer.false (c.same_layer.ensures.1 e) in (
+    let differs : c.loop-layers.values ≡ c.next_layer.new.next → ⊥ = λ e. both_ways c.eq.result c.if-eq.false (c.eq.ensures ∙ (pointwise_decides g.met.M.Measure.eq_law _ _).1 e) in (
       copied ∙ round_layer o laws lawful n _ _ was is,
       omega (arith, round_falls o laws lawful n _ _ was is differs, ap (sum_by o.rank) copied, c.loop-layers.invariant.1),
       round_least o laws lawful n _ _ was is differs c.loop-layers.invariant.2,
@@ -36,15 +37,15 @@ loop-layers-smaller g c =
     let o = g.M.Measure.ops in
     let laws = g.M.Measure.laws in
     let lawful = g.S.TaskSource.lawful c.args.source.now in
-    let differs : c.loop-layers.values ≡ c.next_layer.new.next → ⊥ = λ e. both_ways c.same_layer.result c.if-same_layer.false (c.same_layer.ensures.1 e) in
+    let differs : c.loop-layers.values ≡ c.next_layer.new.next → ⊥ = λ e. both_ways c.eq.result c.if-eq.false (c.eq.ensures ∙ (pointwise_decides g.met.M.Measure.eq_law _ _).1 e) in
     omega (arith, round_falls o laws lawful c.loop-layers.layers _ _ c.loop-layers.invariant.0 c.next_layer.ensures differs, ap (sum_by o.rank) c.copy_from_slice.ensures.after)
 
-pub returns-then-same_layer : goal.returns-then-same_layer
-returns-then-same_layer g c =
+pub returns-then-eq : goal.returns-then-eq
+returns-then-eq g c =
     let o = g.M.Measure.ops in
     let laws = g.M.Measure.laws in
     let lawful = g.S.TaskSource.lawful c.args.source.now in
-    let same = c.same_layer.ensures.0 c.if-same_layer.true in
+    let same = (pointwise_decides g.met.M.Measure.eq_law _ _).0 (sym c.eq.ensures ∙ c.if-eq.true) in
     record {
       values = c.loop-layers.invariant.0;
       scratch = sym same ∙ c.loop-layers.invariant.0;

@@ -1,20 +1,14 @@
-use Rattle.std.proofs.Common.{◌≡◌, is_some, sym, ap, ◌∙◌, arith}
-use Rattle.task.proofs.Next.{counted_none, counted_some, needs_few, needs_more}
+use Rattle.std.proofs.Common.{rules, ap, is_some, ◌∙◌, arith}
+use Rattle.std.proofs.lemmas.Iterator.{YieldsList-from_range}
+use Rattle.std.proofs.lemmas.Iterator.Consumers.{YieldsList-from_filter, count_from_yields_List}
+use Rattle.task.specs.Next.{needs_below}
+use Rattle.task.proofs.Next.{needs_count}
 use Rattle.task.proofs.task_source.TaskSource.count_needs.Goals as goal
-use Rattle.task.proofs.task_source.TaskSource.count_needs.Goals.{then-is_some, else-is_some}
 
-pub overflow_add-count : goal.overflow_add-count
-overflow_add-count g c =
+pub returns : goal.returns
+returns g c =
     let t = g.Self.TaskSource.task c.args.self.now in
-    omega (arith, c.loop-variable.invariant, needs_few t c.args.action c.loop-variable.variable, c.loop-variable-test.true)
-
-pub loop-variable-preserved : goal.loop-variable-preserved
-loop-variable-preserved g c =
-    let t = g.Self.TaskSource.task c.args.self.now in
-    let o = t.need c.args.action c.loop-variable.variable in
-    let more = needs_more t c.args.action c.loop-variable.variable in
-    let told : c.is_some.result ≡ is_some o = c.is_some.ensures ∙ ap is_some c.need.ensures in
-    elim c.if-is_some.branch [
-      | then-is_some w ↦ omega (arith, w.count-is, more, c.loop-variable.invariant, counted_some o (sym told ∙ w.if-is_some.true))
-      | else-is_some w ↦ omega (arith, w.count-is, more, c.loop-variable.invariant, counted_none o (sym told ∙ w.if-is_some.false))
-    ]
+    let a = c.args.action in
+    let n = c.variables.result in
+    count_from_yields_List _ _ c.count.ensures.ran (YieldsList-from_filter _ (λ v. is_some (t.need a v)) (YieldsList-from_range 0 n n c.filter.ensures.source (omega arith)) c.filter.ensures.closure (λ x b q k. search rules))
+    ∙ needs_count t a n ∙ ap (needs_below t a) c.variables.ensures

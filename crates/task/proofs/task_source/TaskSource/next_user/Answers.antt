@@ -1,11 +1,16 @@
-use Rattle.std.proofs.Common.{sym, ◌∙◌, arith}
-use Rattle.task.proofs.Next.{between_all}
+use Rattle.std.proofs.Common.{rules, sym, ◌∙◌, arith}
+use borrow.Author.Tests.{tests}
+use Rattle.std.proofs.lemmas.Iterator.{first_from_Range}
+use Rattle.task.specs.Task.{Needs}
+use Rattle.task.proofs.Next.{next_action}
 use Rattle.task.proofs.Options.{no_some}
 use Rattle.task.proofs.task_source.TaskSource.next_user.Goals as goal
 
 pub returns : goal.returns
 returns g c =
+    let t = g.Self.TaskSource.task c.args.self.now in
     let lawful = g.Self.TaskSource.lawful c.args.self.now in
     let f = c.args.fact in
-    between_all _ _ c.loop-later.later c.loop-later.invariant (g.Self.TaskSource.task c.args.self.now).actions (omega (arith, c.loop-later-test.false, c.actions-later-end.ensures))
-    (λ a h e. no_some f.value (sym (lawful.need_past a f.variable h) ∙ e))
+    next_action c.args.action c.actions.result c.find.result
+    (first_from_Range _ _ _ c.find.result (λ a. Needs t a f) (λ a. Needs t a f → ⊥) c.find.ensures.ran (λ x q k. search (rules, tests)) (λ x q k. search (rules, tests)))
+    (λ a h e. no_some f.value (sym (lawful.need_past a f.variable (omega (arith, c.actions.ensures))) ∙ e))

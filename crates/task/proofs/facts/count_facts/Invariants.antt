@@ -1,6 +1,0 @@
-use Rattle.std.proofs.Common.{◌≡◌}
-use Rattle.task.specs.Task.{offset}
-use Rattle.task.proofs.facts.count_facts.Given as goal
-
-abbrev pub invariant-loop-variable : goal.invariant-loop-variable
-invariant-loop-variable g l = l.count ≡ offset (g.S.TaskSource.task l.source).size l.variable
