@@ -1,15 +1,12 @@
 -- What a record with no cause for refusal tells. Assumes nothing.
-use Rattle.std.proofs.Common.{◌≡◌, ℕ, ◌+◌, ◌<◌, ◌≤◌, Bool, true, false, cond, not, ◌&&◌, eqb, ltb, leb, List, [], ◌∷◌, map, length, Some, None, sum, Option, sym, refl, ap, ◌∙◌, arith}
-use lib.ListN.{length-map}
+use Rattle.std.proofs.Common.{◌≡◌, ℕ, ◌+◌, ◌<◌, ◌≤◌, Bool, true, false, cond, not, ◌&&◌, ltb, leb, List, [], ◌∷◌, length, Some, None, sum, Option, refl, arith}
 use Rattle.std.specs.List.{AllByRecursion as All}
 use Rattle.std.proofs.lemmas.List.{nil_from_length}
 use Rattle.std.proofs.lemmas.Bool.{eqb-true, eqb-false, ltb-false, leb-false, and_parts, or_parts, not-true, not-false}
 use Rattle.records.specs.declared.record.Kind.{Kind}
 use Rattle.records.specs.declared.record.Kind.TheVariants.{Variable, Goal, Action, Condition, Effect, Delete}
 use Rattle.records.specs.declared.fault.Ground.{Ground}
-use Rattle.lists.specs.declared.table.Operator.{Operator}
 use Rattle.lists.specs.Lists.{Lists}
-use Rattle.lists.specs.View.{row_of}
 use Rattle.lists.specs.Puts.{last_row}
 use Rattle.forms.specs.Rules.{in_place, full, some, none}
 use Rattle.forms.specs.Forms.{Cause, first_cause}
@@ -47,7 +44,3 @@ placed Delete b e = there b.rows (not-false _ e)
 
 pub room : (x : ℕ) (b : Lists) → full Variable x b ≡ false → (length b.sizes < 64) × (sum b.sizes + x ≤ 256)
 room x b e = let p = or_parts (leb 64 (length b.sizes)) (ltb 256 (sum b.sizes + x)) e in (leb-false 64 (length b.sizes) p.0, ltb-false 256 (sum b.sizes + x) p.1)
-
--- as many rows as operators
-pub no_rows : (os : List Operator) (n : ℕ) → n ≡ length os → eqb n 0 ≡ none (map row_of os)
-no_rows os n e = ap (λ k. eqb k 0) (e ∙ sym (length-map os row_of))

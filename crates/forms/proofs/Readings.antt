@@ -1,5 +1,5 @@
 -- A reader that goes through the records. Assumes nothing.
-use Rattle.std.proofs.Common.{◌≡◌, ℕ, ◌+◌, ◌/◌, ◌%◌, ◌<◌, ◌≤◌, List, length, get_or, take, Some, None, sym, ap, ◌∙◌, subst, ap₂, inl, inr, ⊎_elim, arith, below_more}
+use Rattle.std.proofs.Common.{◌≡◌, ℕ, ◌+◌, ◌%◌, ◌<◌, ◌≤◌, List, length, get_or, take, Some, None, sym, ap, ◌∙◌, subst, ap₂, inl, inr, ⊎_elim, arith, below_more}
 use Rattle.std.proofs.lemmas.List.{take_more, take_all}
 use Rattle.records.specs.declared.record.Record.{Record as FormRecord}
 use Rattle.records.specs.declared.fault.ReadFault.{ReadFault}
@@ -21,34 +21,29 @@ pub record Read (f : FormRules) (bs : List ℕ) (i : ℕ) (b : Lists) : Type 0 w
   pub sound : (j : ℕ) → j < i → fault_at (fault_of f) (records bs) j ≡ None
 
 module _ (f : FormRules) (bs : List ℕ) (i : ℕ) (b : Lists) (h : Read f bs i b) where
-  within : i < length bs / 4 → i < length (records bs)
-  within l = subst (λ n. i < n) (sym (length_records bs)) l
-
   -- what the code tested is what the page tests
   same_fault : (r : FormRecord) → r ≡ get_or (records bs) i no_record → after f (f.kind r.kind) b r ≡ fault_at (fault_of f) (records bs) i
   same_fault r e = ap₂ (λ (c : Lists) (q : FormRecord). after f (f.kind q.kind) c q) h.lists e
 
-  pub one_more : Grows f → i < length bs / 4 → (r : FormRecord) → r ≡ get_or (records bs) i no_record → (k : Kind) → f.kind r.kind ≡ Some k → after f (f.kind r.kind) b r ≡ None → (b' : Lists) → b' ≡ put k (f.enters k r).first (f.enters k r).second b → Read f bs (i + 1) b'
+  pub one_more : Grows f → i < length (records bs) → (r : FormRecord) → r ≡ get_or (records bs) i no_record → (k : Kind) → f.kind r.kind ≡ Some k → after f (f.kind r.kind) b r ≡ None → (b' : Lists) → b' ≡ put k (f.enters k r).first (f.enters k r).second b → Read f bs (i + 1) b'
   one_more g l r e k q n b' p =
       let rs = records bs in
       record {
-        lists = p ∙ ap₂ (λ (c : Lists) (s : FormRecord). put k (f.enters k s).first (f.enters k s).second c) h.lists e ∙ sym (g (take i rs) (get_or rs i no_record) k (subst (λ (s : FormRecord). f.kind s.kind ≡ Some k) e q)) ∙ ap f.lists (sym (take_more rs i no_record (within l)));
+        lists = p ∙ ap₂ (λ (c : Lists) (s : FormRecord). put k (f.enters k s).first (f.enters k s).second c) h.lists e ∙ sym (g (take i rs) (get_or rs i no_record) k (subst (λ (s : FormRecord). f.kind s.kind ≡ Some k) e q)) ∙ ap f.lists (sym (take_more rs i no_record l));
         sound = below_more (λ j. fault_at (fault_of f) rs j ≡ None) i h.sound (sym (same_fault r e) ∙ n);
       }
 
-  pub refused : (BadLength (length bs) → ⊥) → i < length bs / 4 → (r : FormRecord) → r ≡ get_or (records bs) i no_record → (e : ReadFault) → Stopped (after f (f.kind r.kind) b r) i e → Refused (fault_of f) bs e
+  pub refused : (BadLength (length bs) → ⊥) → i < length (records bs) → (r : FormRecord) → r ≡ get_or (records bs) i no_record → (e : ReadFault) → Stopped (after f (f.kind r.kind) b r) i e → Refused (fault_of f) bs e
   refused long l r q Length s = absurd s
-  refused long l r q (Record e) s = (long, subst (λ k. FirstFault (fault_of f) (records bs) k e.ground) (sym s.0) (record { within = within l; faulty = sym (same_fault r q) ∙ s.1; first = h.sound }))
-  refused long l r q Memory s = (long, (i, within l, λ j m. ⊎_elim (λ less. h.sound j less) (λ same. let e : i ≡ j = omega arith in subst (λ k. fault_at (fault_of f) (records bs) k ≡ None) e (sym (same_fault r q) ∙ s)) (cases_lt j i)))
+  refused long l r q (Record e) s = (long, subst (λ k. FirstFault (fault_of f) (records bs) k e.ground) (sym s.0) (record { within = l; faulty = sym (same_fault r q) ∙ s.1; first = h.sound }))
+  refused long l r q Memory s = (long, (i, l, λ j m. ⊎_elim (λ less. h.sound j less) (λ same. let e : i ≡ j = omega arith in subst (λ k. fault_at (fault_of f) (records bs) k ≡ None) e (sym (same_fault r q) ∙ s)) (cases_lt j i)))
 
-  pub whole : (BadLength (length bs) → ⊥) → length bs / 4 ≤ i → Whole f bs b
-  whole long l =
-      let all : length (records bs) ≤ i = subst (λ n. n ≤ i) (sym (length_records bs)) l in
-      record {
-        long = long;
-        sound = λ j m. h.sound j (omega arith);
-        is = h.lists ∙ ap f.lists (take_all i (records bs) all);
-      }
+  pub whole : (BadLength (length bs) → ⊥) → length (records bs) ≤ i → Whole f bs b
+  whole long l = record {
+    long = long;
+    sound = λ j m. h.sound j (omega arith);
+    is = h.lists ∙ ap f.lists (take_all i (records bs) l);
+  }
 
 some_records : (bs : List ℕ) → (BadLength (length bs) → ⊥) → 0 < length (records bs)
 some_records bs long =

@@ -1,26 +1,24 @@
 // The order of the kinds, the limits, the ranges and repeated variables.
-ghost use Rattle.std.specs.Prelude.{◌≡◌, ◌*◌, ◌≤◌, true, length, sum, OnOk};
+ghost use Rattle.std.specs.Prelude.{◌≡◌, ◌≤◌, length, map, sum, OnOk};
 ghost use Rattle.lists.specs.Puts.{put as with_entry};
 ghost use Rattle.lists.specs.View.{lists_of};
 ghost use Rattle.forms.specs.Rules.{in_place, full, own_list_lem, repeated, wide_first, wide_second};
 
 use crate::form::Entry;
 use lists::lookup::value_in;
-use lists::table::{Pair, Table};
+use lists::table::{Pair, Table, Variable};
 use records::record::Kind;
 use std::alloc::{AllocError, Global};
 
-// How many facts variables of these sizes have.
-fn total(sizes: &[u8]) -> usize
-    requires { length sizes.now ≤ 64 }
-    ensures is { result ≡ sum sizes.now }
-    ensures few { result ≤ 255 * length sizes.now }
+// How many facts the variables have.
+fn facts(variables: &[Variable]) -> usize
+    requires { length variables.now ≤ 64 }
+    ensures { result ≡ sum (map (λ (v : _). v.size) variables.now) }
 {
-    let mut facts = 0;
-    for size in sizes {
-        facts += usize::from(*size);
-    }
-    facts
+    variables
+        .iter()
+        .map(|variable| usize::from(variable.size))
+        .sum()
 }
 
 // Whether a record of the kind can stand here.
@@ -29,16 +27,13 @@ pub(crate) fn is_in_place(table: &Table, kind: Kind) -> bool
 {
     match kind {
         Kind::Variable => table.goals.is_empty() && table.operators.is_empty(),
-        Kind::Goal => !table.sizes.is_empty() && table.operators.is_empty(),
-        Kind::Action => !table.sizes.is_empty(),
-        Kind::Condition => match table.latest() {
-            Some(action) => action.effects.is_empty() && action.deletes.is_empty(),
-            None => false,
-        },
-        Kind::Effect => match table.latest() {
-            Some(action) => action.deletes.is_empty(),
-            None => false,
-        },
+        Kind::Goal => !table.variables.is_empty() && table.operators.is_empty(),
+        Kind::Action => !table.variables.is_empty(),
+        Kind::Condition => table.latest().is_some_and(|action| action.effects.is_empty()
+            && action.deletes.is_empty()),
+        Kind::Effect => table
+            .latest()
+            .is_some_and(|action| action.deletes.is_empty()),
         Kind::Delete => !table.operators.is_empty(),
     }
 }
@@ -49,17 +44,15 @@ pub(crate) fn is_full(table: &Table, kind: Kind, size: u8) -> bool
 {
     match kind {
         Kind::Variable => table.variables() >= 64
-            || total(table.sizes.as_slice()) + usize::from(size) > 256,
+            || facts(table.variables.as_slice()) > 256 - usize::from(size),
         Kind::Goal => false,
         Kind::Action => table.actions() >= 512,
-        Kind::Condition => match table.latest() {
-            Some(action) => action.conditions.len() >= 8,
-            None => false,
-        },
-        Kind::Effect | Kind::Delete => match table.latest() {
-            Some(action) => { action.deletes.len() >= 8usize.saturating_sub(action.effects.len()) }
-            None => false,
-        },
+        Kind::Condition => table
+            .latest()
+            .is_some_and(|action| action.conditions.len() >= 8),
+        Kind::Effect | Kind::Delete => table.latest().is_some_and(|action| {
+            action.deletes.len() >= 8usize.saturating_sub(action.effects.len())
+        }),
     }
 }
 
@@ -96,18 +89,15 @@ fn own_list(table: &Table, kind: Kind) -> &[Pair]
     match kind {
         Kind::Variable | Kind::Action => &[],
         Kind::Goal => table.goals.as_slice(),
-        Kind::Condition => match table.latest() {
-            Some(action) => action.conditions.as_slice(),
-            None => &[],
-        },
-        Kind::Effect => match table.latest() {
-            Some(action) => action.effects.as_slice(),
-            None => &[],
-        },
-        Kind::Delete => match table.latest() {
-            Some(action) => action.deletes.as_slice(),
-            None => &[],
-        },
+        Kind::Condition => table
+            .latest()
+            .map_or(&[], |action| action.conditions.as_slice()),
+        Kind::Effect => table
+            .latest()
+            .map_or(&[], |action| action.effects.as_slice()),
+        Kind::Delete => table
+            .latest()
+            .map_or(&[], |action| action.deletes.as_slice()),
     }
 }
 
@@ -125,7 +115,6 @@ pub(crate) fn put(
     kind: Kind,
     entry: Entry,
 ) -> Result<(), AllocError>
-    requires { in_place kind (lists_of table.old) ≡ true }
     ensures { OnOk result (lists_of table.new ≡ with_entry kind entry.first entry.second (lists_of table.old)) }
 {
     match kind {

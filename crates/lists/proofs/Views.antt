@@ -1,16 +1,13 @@
 -- The rows of a table. Assumes nothing.
-use Rattle.std.proofs.Common.{◌≡◌, ℕ, ◌-◌, ◌<◌, ◌≤◌, List, [], ◌∷◌, ◌++◌, map, length, get_or, set, sym, ap, ◌∙◌, subst, arith}
+use Rattle.std.proofs.Common.{◌≡◌, ℕ, ◌-◌, ◌<◌, List, map, length, get_or, set, sym, ap, ◌∙◌, subst, arith}
 use lib.ListN.{length-map}
-use Rattle.std.proofs.lemmas.List.{map_push, map-set, get_or-map, nil_from_length, get_or_past}
+use Rattle.std.proofs.lemmas.List.{map-set, get_or-map}
 use Rattle.lists.specs.declared.table.Operator.{Operator}
 use Rattle.lists.specs.Lists.{Row, Lists, no_row}
 use Rattle.lists.specs.Puts.{last_row, with_rows, with_last}
 use Rattle.lists.specs.View.{row_of}
 
-pub add_row : (os os' : List Operator) (o : Operator) → os' ≡ os ++ o ∷ [] → row_of o ≡ no_row → map row_of os' ≡ map row_of os ++ no_row ∷ []
-add_row os os' o e h = ap (map row_of) e ∙ map_push row_of os o ∙ ap (λ r. map row_of os ++ r ∷ []) h
-
-pub end_row : (os : List Operator) (o : Operator) → 0 < length os → o ≡ get_or os (length os - 1) o → get_or (map row_of os) (length (map row_of os) - 1) no_row ≡ row_of o
+end_row : (os : List Operator) (o : Operator) → 0 < length os → o ≡ get_or os (length os - 1) o → get_or (map row_of os) (length (map row_of os) - 1) no_row ≡ row_of o
 end_row os o l e = ap (λ n. get_or (map row_of os) (n - 1) no_row) (length-map os row_of) ∙ get_or-map row_of os (length os - 1) o no_row (omega arith) ∙ ap row_of (sym e)
 
 -- the last row, at the length n that the code read
@@ -19,11 +16,8 @@ last_is os n o e l h =
     let some : 0 < length os = subst (λ k. 0 < k) e l in
     (subst (λ k. 0 < k) (sym (length-map os row_of)) some, end_row os o some (subst (λ k. o ≡ get_or os (k - 1) o) e h))
 
-pub last_none : (os : List Operator) → length os ≤ 0 → map row_of os ≡ []
-last_none os l = ap (map row_of) (nil_from_length os (omega arith))
-
 -- a change of the last operator
-pub relast_row : (os : List Operator) (o new : Operator) (w : Row → Row) → 0 < length os → o ≡ get_or os (length os - 1) o → row_of new ≡ w (row_of o) → map row_of (set os (length os - 1) new) ≡ set (map row_of os) (length (map row_of os) - 1) (w (get_or (map row_of os) (length (map row_of os) - 1) no_row))
+relast_row : (os : List Operator) (o new : Operator) (w : Row → Row) → 0 < length os → o ≡ get_or os (length os - 1) o → row_of new ≡ w (row_of o) → map row_of (set os (length os - 1) new) ≡ set (map row_of os) (length (map row_of os) - 1) (w (get_or (map row_of os) (length (map row_of os) - 1) no_row))
 relast_row os o new w l e h =
     map-set row_of os (length os - 1) new
     ∙ ap (set (map row_of os) (length os - 1)) (h ∙ ap w (sym (end_row os o l e)))
@@ -35,9 +29,3 @@ relast_at b os o new w n q m l e h =
     ap (λ k. with_rows b (map row_of (set os (k - 1) new))) m
     ∙ ap (with_rows b) (relast_row os o new w (subst (λ k. 0 < k) m l) (subst (λ k. o ≡ get_or os (k - 1) o) m e) h)
     ∙ ap (λ (rs : List Row). with_rows b (set rs (length rs - 1) (w (get_or rs (length rs - 1) no_row)))) (sym q)
-
-pub row_at : (os : List Operator) (a : ℕ) (o : Operator) → a < length os → o ≡ get_or os a o → get_or (map row_of os) a no_row ≡ row_of o
-row_at os a o l e = get_or-map row_of os a o no_row l ∙ ap row_of (sym e)
-
-pub row_past : (os : List Operator) (a : ℕ) → length os ≤ a → get_or (map row_of os) a no_row ≡ no_row
-row_past os a l = get_or_past (map row_of os) a no_row (subst (λ n. n ≤ a) (sym (length-map os row_of)) l)

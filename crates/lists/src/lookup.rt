@@ -9,12 +9,10 @@ use crate::table::{Operator, Pair, Table};
 pub fn value_in(pairs: &[Pair], variable: usize) -> Option<usize>
     ensures { result ≡ value_in pairs.now variable }
 {
-    for pair in pairs {
-        if usize::from(pair.variable) == variable {
-            return Some(usize::from(pair.value));
-        }
-    }
-    None
+    pairs
+        .iter()
+        .find(|pair| usize::from(pair.variable) == variable)
+        .map(|pair| usize::from(pair.value))
 }
 
 impl Table {
@@ -22,29 +20,25 @@ impl Table {
     pub fn variables(&self) -> usize
         ensures { result ≡ (task_of (lists_of self.now)).vars }
     {
-        self.sizes.len()
+        self.variables.len()
     }
 
     // How many values a variable has, 0 past the last variable.
     pub fn size(&self, variable: usize) -> usize
         ensures { result ≡ (task_of (lists_of self.now)).size variable }
     {
-        if variable < self.sizes.len() {
-            usize::from(self.sizes[variable])
-        } else {
-            0
-        }
+        self.variables
+            .get(variable)
+            .map_or(0, |found| usize::from(found.size))
     }
 
     // The value of a variable at the start, 0 past the last variable.
     pub fn start(&self, variable: usize) -> usize
         ensures { result ≡ (task_of (lists_of self.now)).start variable }
     {
-        if variable < self.starts.len() {
-            usize::from(self.starts[variable])
-        } else {
-            0
-        }
+        self.variables
+            .get(variable)
+            .map_or(0, |found| usize::from(found.start))
     }
 
     // The goal value of a variable, if it has one.
@@ -72,33 +66,25 @@ impl Table {
     fn operator(&self, action: usize) -> Option<&Operator>
         ensures { AtRow result (lists_of self.now) action }
     {
-        if action < self.operators.len() {
-            Some(&self.operators[action])
-        } else {
-            None
-        }
+        self.operators.get(action)
     }
 
     // The value that an action needs of a variable, if any.
     pub fn need(&self, action: usize, variable: usize) -> Option<usize>
         ensures { result ≡ (task_of (lists_of self.now)).need action variable }
     {
-        match self.operator(action) {
-            Some(operator) => value_in(operator.conditions.as_slice(), variable),
-            None => None,
-        }
+        let operator = self.operator(action)?;
+        value_in(operator.conditions.as_slice(), variable)
     }
 
     // The value that an action gives a variable, if any; a delete gives way to an effect.
     pub fn effect(&self, action: usize, variable: usize) -> Option<usize>
         ensures { result ≡ (task_of (lists_of self.now)).give action variable }
     {
-        match self.operator(action) {
-            Some(operator) => match value_in(operator.effects.as_slice(), variable) {
-                Some(value) => Some(value),
-                None => value_in(operator.deletes.as_slice(), variable),
-            },
-            None => None,
-        }
+        let operator = self.operator(action)?;
+        value_in(operator.effects.as_slice(), variable).or_else(|| value_in(
+            operator.deletes.as_slice(),
+            variable,
+        ))
     }
 }

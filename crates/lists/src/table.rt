@@ -1,17 +1,25 @@
 // A task as it is kept, and how it grows.
-ghost use Rattle.std.specs.Prelude.{◌≡◌, ◌<◌, vec_len, OnOk};
+ghost use Rattle.std.specs.Prelude.{◌≡◌, OnOk};
+ghost use Rattle.std.specs.Fn.{FnOnceReturnsAtMut};
 ghost use Rattle.lists.specs.Lists.{blank};
 ghost use Rattle.lists.specs.Puts.{put};
-ghost use Rattle.lists.specs.View.{lists_of, AtLast};
-ghost use Rattle.records.specs.declared.record.Kind.TheVariants.{Variable, Goal, Action, Condition, Effect, Delete};
+ghost use Rattle.lists.specs.View.{lists_of, AtLast, LastChanged};
+ghost use Rattle.records.specs.declared.record.Kind.TheVariants as kind;
 
-use std::alloc::{AllocError, Global};
+use std::alloc::{AllocError, AllocFailed, Global};
 
 // A variable and a value of it.
 #[derive(Clone, Copy)]
 pub struct Pair {
     pub variable: u8,
     pub value: u8,
+}
+
+// How many values a variable has, and the one at the start.
+#[derive(Clone, Copy)]
+pub struct Variable {
+    pub size: u8,
+    pub start: u8,
 }
 
 // One action.
@@ -22,11 +30,11 @@ pub struct Operator {
     pub deletes: Vec<Pair>,
 }
 
-// Sizes and start values by variable, the goals, and the actions in order.
+// The variables, the goals, and the actions, all in order.
+// It has no model, since a reader of records tests the parts; `lists_of` says what they mean.
 #[derive(Drop)]
 pub struct Table {
-    pub sizes: Vec<u8>,
-    pub starts: Vec<u8>,
+    pub variables: Vec<Variable>,
     pub goals: Vec<Pair>,
     pub operators: Vec<Operator>,
 }
@@ -37,8 +45,7 @@ impl Table {
         ensures { lists_of result ≡ blank }
     {
         Table {
-            sizes: Vec::new(heap),
-            starts: Vec::new(heap),
+            variables: Vec::new(heap),
             goals: Vec::new(heap),
             operators: Vec::new(heap),
         }
@@ -46,16 +53,15 @@ impl Table {
 
     // One more variable.
     pub fn add_variable(&mut self, size: u8, start: u8) -> Result<(), AllocError>
-        ensures { OnOk result (lists_of self.new ≡ put Variable size start (lists_of self.old)) }
+        ensures { OnOk result (lists_of self.new ≡ put kind.Variable size start (lists_of self.old)) }
     {
-        self.sizes.push(size)?;
-        self.starts.push(start)?;
+        self.variables.push(Variable { size, start })?;
         Ok(())
     }
 
     // One more goal.
     pub fn add_goal(&mut self, variable: u8, value: u8) -> Result<(), AllocError>
-        ensures { OnOk result (lists_of self.new ≡ put Goal variable value (lists_of self.old)) }
+        ensures { OnOk result (lists_of self.new ≡ put kind.Goal variable value (lists_of self.old)) }
     {
         self.goals.push(Pair { variable, value })?;
         Ok(())
@@ -63,7 +69,7 @@ impl Table {
 
     // One more action, of no conditions and effects.
     pub fn add_action(&mut self, heap: Global) -> Result<(), AllocError>
-        ensures { OnOk result (lists_of self.new ≡ put Action 0 0 (lists_of self.old)) }
+        ensures { OnOk result (lists_of self.new ≡ put kind.Action 0 0 (lists_of self.old)) }
     {
         self.operators.push(Operator {
             conditions: Vec::new(heap),
@@ -73,47 +79,45 @@ impl Table {
         Ok(())
     }
 
-    // One more condition of the last action.
+    // Adds to the last action, if there is one.
+    fn add_to_last<F: FnOnce(&mut Operator) -> Result<(), AllocFailed<Pair>>>(
+        &mut self,
+        add: F,
+    ) -> Result<(), AllocError>
+        requires { F.IsAlwaysCallable add }
+        ensures { OnOk result (LastChanged (λ o o'. FnOnceReturnsAtMut F.FnOnce add o (Ok tt) o') self.old self.new) }
+    {
+        if let Some(operator) = self.operators.last_mut() {
+            add(operator)?;
+        }
+        Ok(())
+    }
+
+    // One more condition of the last action, if there is one.
     pub fn add_condition(&mut self, variable: u8, value: u8) -> Result<(), AllocError>
-        requires { 0 < vec_len self.old.operators }
-        ensures { OnOk result (lists_of self.new ≡ put Condition variable value (lists_of self.old)) }
+        ensures { OnOk result (lists_of self.new ≡ put kind.Condition variable value (lists_of self.old)) }
     {
-        let last = self.operators.len() - 1;
-        self.operators[last]
-            .conditions
-            .push(Pair { variable, value })?;
-        Ok(())
+        self.add_to_last(|action| action.conditions.push(Pair { variable, value }))
     }
 
-    // One more effect of the last action.
+    // One more effect of the last action, if there is one.
     pub fn add_effect(&mut self, variable: u8, value: u8) -> Result<(), AllocError>
-        requires { 0 < vec_len self.old.operators }
-        ensures { OnOk result (lists_of self.new ≡ put Effect variable value (lists_of self.old)) }
+        ensures { OnOk result (lists_of self.new ≡ put kind.Effect variable value (lists_of self.old)) }
     {
-        let last = self.operators.len() - 1;
-        self.operators[last].effects.push(Pair { variable, value })?;
-        Ok(())
+        self.add_to_last(|action| action.effects.push(Pair { variable, value }))
     }
 
-    // One more delete of the last action: an effect that any other on its variable beats.
+    // One more delete of the last action, if there is one: an effect that any other on its variable beats.
     pub fn add_delete(&mut self, variable: u8, value: u8) -> Result<(), AllocError>
-        requires { 0 < vec_len self.old.operators }
-        ensures { OnOk result (lists_of self.new ≡ put Delete variable value (lists_of self.old)) }
+        ensures { OnOk result (lists_of self.new ≡ put kind.Delete variable value (lists_of self.old)) }
     {
-        let last = self.operators.len() - 1;
-        self.operators[last].deletes.push(Pair { variable, value })?;
-        Ok(())
+        self.add_to_last(|action| action.deletes.push(Pair { variable, value }))
     }
 
     // The action that was begun last.
     pub fn latest(&self) -> Option<&Operator>
         ensures { AtLast result (lists_of self.now) }
     {
-        let count = self.operators.len();
-        if count > 0 {
-            Some(&self.operators[count - 1])
-        } else {
-            None
-        }
+        self.operators.last()
     }
 }

@@ -10,26 +10,24 @@ mod tests {
     use std::test::*;
     use task::task_source::TaskSource;
 
-    // The number, record and byte of a refusal, and 0 where the paper is read.
-    type Verdict = (u8, usize, u8);
+    // The number, record and byte of a refusal; nothing where the paper is read.
+    type Verdict = Option<(u8, usize, u8)>;
 
-    const READ: Verdict = (0, 0, 0);
+    const READ: Verdict = None;
 
     // What is printed of a refusal; nothing where the paper is read.
     fn line(rt: &HostRuntime, bytes: &[u8]) -> Option<FaultLine> {
-        match Paper::read(rt.alloc(), bytes) {
-            Ok(_) => None,
-            Err(fault) => fault.line(),
-        }
+        Paper::read(rt.alloc(), bytes).err()?.line()
     }
 
-    fn verdict(rt: &impl AllocGlobal, bytes: &[u8]) -> Verdict {
+    // These helpers stand in sheet_tests too: what stops a test may stand in tests alone, and no crate can call another's tests.
+    fn verdict(rt: &impl AllocGlobal, bytes: &[u8]) -> Result<Verdict, Fail> {
         match Paper::read(rt.alloc(), bytes) {
-            Ok(_) => READ,
-            Err(fault) => match fault.line() {
-                Some(line) => (line.number, line.place, line.byte),
-                None => (99, 0, 0),
-            },
+            Ok(_) => Ok(READ),
+            Err(fault) => {
+                let line = fault.line().ok_or(fault)?;
+                Ok(Some((line.number, line.place, line.byte)))
+            }
         }
     }
 
@@ -39,18 +37,10 @@ mod tests {
         before: &[u8],
         cases: &[([u8; 4], Verdict)],
     ) -> Result<(), Fail> {
-        for case in cases {
+        for (record, expected) in cases {
             let mut bytes = before.to_vec(rt.alloc())?;
-            bytes.extend_from_slice(&case.0)?;
-            assert_eq!(rt; verdict(rt, bytes.as_slice()), case.1);
-        }
-        Ok(())
-    }
-
-    // Adds a record so many times.
-    fn repeat(bytes: &mut Vec<u8>, times: usize, record: [u8; 4]) -> Result<(), AllocError> {
-        for _ in 0..times {
-            bytes.extend_from_slice(&record)?;
+            bytes.extend_from_slice(record)?;
+            assert_eq!(rt; verdict(rt, bytes.as_slice())?, *expected);
         }
         Ok(())
     }
@@ -66,54 +56,54 @@ mod tests {
     // Records that come before, one more record, and the verdict on all.
     static CASES: [(&[u8], [u8; 4], Verdict); 75] = [
         // sizes and start values
-        (&[], [1, 0, 0, 0], (4, 0, 1)),
+        (&[], [1, 0, 0, 0], Some((4, 0, 1))),
         (&[], [1, 1, 0, 0], READ),
-        (&[], [1, 1, 1, 0], (4, 0, 2)),
+        (&[], [1, 1, 1, 0], Some((4, 0, 2))),
         (&[], [1, 16, 15, 0], READ),
-        (&[], [1, 16, 16, 0], (4, 0, 2)),
-        (&[], [1, 17, 0, 0], (4, 0, 1)),
-        (&[], [1, 17, 17, 0], (4, 0, 1)),
-        (&[], [1, 255, 0, 0], (4, 0, 1)),
+        (&[], [1, 16, 16, 0], Some((4, 0, 2))),
+        (&[], [1, 17, 0, 0], Some((4, 0, 1))),
+        (&[], [1, 17, 17, 0], Some((4, 0, 1))),
+        (&[], [1, 255, 0, 0], Some((4, 0, 1))),
         // kinds of no form and of the other form
-        (&[], [0, 3, 0, 0], (2, 0, 0)),
-        (&[], [6, 1, 0, 0], (2, 0, 0)),
-        (&[], [255, 1, 1, 1], (2, 0, 0)),
+        (&[], [0, 3, 0, 0], Some((2, 0, 0))),
+        (&[], [6, 1, 0, 0], Some((2, 0, 0))),
+        (&[], [255, 1, 1, 1], Some((2, 0, 0))),
         // the same after a variable
-        (&[1, 3, 0, 0], [6, 1, 0, 0], (2, 1, 0)),
-        (&[1, 3, 0, 0], [11, 0, 0, 0], (2, 1, 0)),
+        (&[1, 3, 0, 0], [6, 1, 0, 0], Some((2, 1, 0))),
+        (&[1, 3, 0, 0], [11, 0, 0, 0], Some((2, 1, 0))),
         // unused bytes, before place and range
-        (&[], [1, 3, 0, 1], (2, 0, 3)),
-        (&[], [1, 0, 9, 1], (2, 0, 3)),
-        (&[], [4, 9, 9, 1], (2, 0, 3)),
+        (&[], [1, 3, 0, 1], Some((2, 0, 3))),
+        (&[], [1, 0, 9, 1], Some((2, 0, 3))),
+        (&[], [4, 9, 9, 1], Some((2, 0, 3))),
         // unused bytes of goals and actions, lowest first
-        (&[1, 3, 0, 0], [2, 0, 1, 1], (2, 1, 3)),
-        (&[1, 3, 0, 0], [3, 1, 0, 0], (2, 1, 1)),
-        (&[1, 3, 0, 0], [3, 0, 1, 0], (2, 1, 2)),
-        (&[1, 3, 0, 0], [3, 0, 0, 1], (2, 1, 3)),
-        (&[1, 3, 0, 0], [3, 1, 1, 1], (2, 1, 1)),
+        (&[1, 3, 0, 0], [2, 0, 1, 1], Some((2, 1, 3))),
+        (&[1, 3, 0, 0], [3, 1, 0, 0], Some((2, 1, 1))),
+        (&[1, 3, 0, 0], [3, 0, 1, 0], Some((2, 1, 2))),
+        (&[1, 3, 0, 0], [3, 0, 0, 1], Some((2, 1, 3))),
+        (&[1, 3, 0, 0], [3, 1, 1, 1], Some((2, 1, 1))),
         // unused bytes of conditions and effects
-        (&[1, 3, 0, 0, 3, 0, 0, 0], [4, 0, 1, 255], (2, 2, 3)),
-        (&[1, 3, 0, 0, 3, 0, 0, 0], [5, 0, 1, 255], (2, 2, 3)),
+        (&[1, 3, 0, 0, 3, 0, 0, 0], [4, 0, 1, 255], Some((2, 2, 3))),
+        (&[1, 3, 0, 0, 3, 0, 0, 0], [5, 0, 1, 255], Some((2, 2, 3))),
         // the first record is a variable
-        (&[], [2, 0, 0, 0], (3, 0, 0)),
-        (&[], [2, 9, 9, 0], (3, 0, 0)),
-        (&[], [3, 0, 0, 0], (3, 0, 0)),
-        (&[], [4, 0, 0, 0], (3, 0, 0)),
-        (&[], [5, 0, 0, 0], (3, 0, 0)),
+        (&[], [2, 0, 0, 0], Some((3, 0, 0))),
+        (&[], [2, 9, 9, 0], Some((3, 0, 0))),
+        (&[], [3, 0, 0, 0], Some((3, 0, 0))),
+        (&[], [4, 0, 0, 0], Some((3, 0, 0))),
+        (&[], [5, 0, 0, 0], Some((3, 0, 0))),
         // after a variable
         (&[1, 3, 0, 0], [1, 2, 1, 0], READ),
         (&[1, 3, 0, 0], [2, 0, 2, 0], READ),
         (&[1, 3, 0, 0], [3, 0, 0, 0], READ),
-        (&[1, 3, 0, 0], [4, 0, 0, 0], (3, 1, 0)),
-        (&[1, 3, 0, 0], [5, 0, 0, 0], (3, 1, 0)),
+        (&[1, 3, 0, 0], [4, 0, 0, 0], Some((3, 1, 0))),
+        (&[1, 3, 0, 0], [5, 0, 0, 0], Some((3, 1, 0))),
         // after a goal
-        (&[1, 3, 0, 0, 2, 0, 1, 0], [1, 2, 0, 0], (3, 2, 0)),
+        (&[1, 3, 0, 0, 2, 0, 1, 0], [1, 2, 0, 0], Some((3, 2, 0))),
         (&[1, 3, 0, 0, 2, 0, 1, 0], [3, 0, 0, 0], READ),
-        (&[1, 3, 0, 0, 2, 0, 1, 0], [4, 0, 0, 0], (3, 2, 0)),
-        (&[1, 3, 0, 0, 2, 0, 1, 0], [5, 0, 0, 0], (3, 2, 0)),
+        (&[1, 3, 0, 0, 2, 0, 1, 0], [4, 0, 0, 0], Some((3, 2, 0))),
+        (&[1, 3, 0, 0, 2, 0, 1, 0], [5, 0, 0, 0], Some((3, 2, 0))),
         // after an action
-        (&[1, 3, 0, 0, 3, 0, 0, 0], [1, 2, 0, 0], (3, 2, 0)),
-        (&[1, 3, 0, 0, 3, 0, 0, 0], [2, 0, 1, 0], (3, 2, 0)),
+        (&[1, 3, 0, 0, 3, 0, 0, 0], [1, 2, 0, 0], Some((3, 2, 0))),
+        (&[1, 3, 0, 0, 3, 0, 0, 0], [2, 0, 1, 0], Some((3, 2, 0))),
         (&[1, 3, 0, 0, 3, 0, 0, 0], [3, 0, 0, 0], READ),
         (&[1, 3, 0, 0, 3, 0, 0, 0], [4, 0, 0, 0], READ),
         (&[1, 3, 0, 0, 3, 0, 0, 0], [5, 0, 0, 0], READ),
@@ -121,12 +111,12 @@ mod tests {
         (
             &[1, 3, 0, 0, 3, 0, 0, 0, 4, 0, 1, 0],
             [1, 2, 0, 0],
-            (3, 3, 0),
+            Some((3, 3, 0)),
         ),
         (
             &[1, 3, 0, 0, 3, 0, 0, 0, 4, 0, 1, 0],
             [2, 0, 1, 0],
-            (3, 3, 0),
+            Some((3, 3, 0)),
         ),
         (&[1, 3, 0, 0, 3, 0, 0, 0, 4, 0, 1, 0], [3, 0, 0, 0], READ),
         (&[1, 3, 0, 0, 3, 0, 0, 0, 4, 0, 1, 0], [5, 0, 0, 0], READ),
@@ -134,18 +124,18 @@ mod tests {
         (
             &[1, 3, 0, 0, 3, 0, 0, 0, 5, 0, 1, 0],
             [1, 2, 0, 0],
-            (3, 3, 0),
+            Some((3, 3, 0)),
         ),
         (
             &[1, 3, 0, 0, 3, 0, 0, 0, 5, 0, 1, 0],
             [2, 0, 1, 0],
-            (3, 3, 0),
+            Some((3, 3, 0)),
         ),
         (&[1, 3, 0, 0, 3, 0, 0, 0, 5, 0, 1, 0], [3, 0, 0, 0], READ),
         (
             &[1, 3, 0, 0, 3, 0, 0, 0, 5, 0, 1, 0],
             [4, 0, 0, 0],
-            (3, 3, 0),
+            Some((3, 3, 0)),
         ),
         // after the effect of the action before
         (
@@ -155,56 +145,56 @@ mod tests {
         ),
         // ranges of a goal, with sizes 3 and 2
         (&[1, 3, 0, 0, 1, 2, 0, 0], [2, 0, 2, 0], READ),
-        (&[1, 3, 0, 0, 1, 2, 0, 0], [2, 0, 3, 0], (4, 2, 2)),
+        (&[1, 3, 0, 0, 1, 2, 0, 0], [2, 0, 3, 0], Some((4, 2, 2))),
         (&[1, 3, 0, 0, 1, 2, 0, 0], [2, 1, 1, 0], READ),
-        (&[1, 3, 0, 0, 1, 2, 0, 0], [2, 1, 2, 0], (4, 2, 2)),
-        (&[1, 3, 0, 0, 1, 2, 0, 0], [2, 2, 0, 0], (4, 2, 1)),
-        (&[1, 3, 0, 0, 1, 2, 0, 0], [2, 255, 255, 0], (4, 2, 1)),
+        (&[1, 3, 0, 0, 1, 2, 0, 0], [2, 1, 2, 0], Some((4, 2, 2))),
+        (&[1, 3, 0, 0, 1, 2, 0, 0], [2, 2, 0, 0], Some((4, 2, 1))),
+        (&[1, 3, 0, 0, 1, 2, 0, 0], [2, 255, 255, 0], Some((4, 2, 1))),
         // ranges of a condition and an effect
         (&[1, 3, 0, 0, 1, 2, 0, 0, 3, 0, 0, 0], [4, 0, 2, 0], READ),
         (
             &[1, 3, 0, 0, 1, 2, 0, 0, 3, 0, 0, 0],
             [4, 0, 3, 0],
-            (4, 3, 2),
+            Some((4, 3, 2)),
         ),
         (
             &[1, 3, 0, 0, 1, 2, 0, 0, 3, 0, 0, 0],
             [4, 2, 0, 0],
-            (4, 3, 1),
+            Some((4, 3, 1)),
         ),
         (&[1, 3, 0, 0, 1, 2, 0, 0, 3, 0, 0, 0], [5, 1, 1, 0], READ),
         (
             &[1, 3, 0, 0, 1, 2, 0, 0, 3, 0, 0, 0],
             [5, 1, 2, 0],
-            (4, 3, 2),
+            Some((4, 3, 2)),
         ),
         (
             &[1, 3, 0, 0, 1, 2, 0, 0, 3, 0, 0, 0],
             [5, 2, 0, 0],
-            (4, 3, 1),
+            Some((4, 3, 1)),
         ),
         // repeats in the goal, after ranges
         (
             &[1, 3, 0, 0, 1, 2, 0, 0, 2, 0, 1, 0],
             [2, 0, 1, 0],
-            (5, 3, 1),
+            Some((5, 3, 1)),
         ),
         (
             &[1, 3, 0, 0, 1, 2, 0, 0, 2, 0, 1, 0],
             [2, 0, 2, 0],
-            (5, 3, 1),
+            Some((5, 3, 1)),
         ),
         (
             &[1, 3, 0, 0, 1, 2, 0, 0, 2, 0, 1, 0],
             [2, 0, 3, 0],
-            (4, 3, 2),
+            Some((4, 3, 2)),
         ),
         (&[1, 3, 0, 0, 1, 2, 0, 0, 2, 0, 1, 0], [2, 1, 0, 0], READ),
         // repeats in conditions; goal, condition and effect may name one variable
         (
             &[1, 3, 0, 0, 1, 2, 0, 0, 2, 0, 1, 0, 3, 0, 0, 0, 4, 0, 1, 0],
             [4, 0, 1, 0],
-            (5, 5, 1),
+            Some((5, 5, 1)),
         ),
         (
             &[1, 3, 0, 0, 1, 2, 0, 0, 2, 0, 1, 0, 3, 0, 0, 0, 4, 0, 1, 0],
@@ -220,12 +210,12 @@ mod tests {
         (
             &[1, 3, 0, 0, 3, 0, 0, 0, 4, 0, 1, 0, 5, 0, 2, 0],
             [5, 0, 0, 0],
-            (5, 4, 1),
+            Some((5, 4, 1)),
         ),
         (
             &[1, 3, 0, 0, 3, 0, 0, 0, 4, 0, 1, 0, 5, 0, 2, 0],
             [5, 0, 2, 0],
-            (5, 4, 1),
+            Some((5, 4, 1)),
         ),
         (
             &[1, 3, 0, 0, 3, 0, 0, 0, 4, 0, 1, 0, 5, 0, 2, 0],
@@ -239,28 +229,27 @@ mod tests {
             READ,
         ),
         // of two faulty records the first counts
-        (&[1, 3, 0, 0, 2, 9, 9, 0], [9, 9, 9, 9], (4, 1, 1)),
+        (&[1, 3, 0, 0, 2, 9, 9, 0], [9, 9, 9, 9], Some((4, 1, 1))),
     ];
 
     #[test]
     fn cases(rt: HostRuntime) -> Result<(), Fail> {
-        for case in &CASES {
-            check_after(&rt, case.0, &[(case.1, case.2)])?;
+        for (before, record, expected) in &CASES {
+            check_after(&rt, before, &[(*record, *expected)])?;
         }
         Ok(())
     }
 
     #[test]
     fn variables(rt: HostRuntime) -> Result<(), Fail> {
-        let mut bytes = Vec::new(rt.alloc());
-        repeat(&mut bytes, 64, [1, 2, 0, 0])?;
-        assert_eq!(rt; verdict(&rt, bytes.as_slice()), READ);
+        let bytes = [1, 2, 0, 0].repeat(rt.alloc(), 64)?;
+        assert_eq!(rt; verdict(&rt, bytes.as_slice())?, READ);
         check_after(
             &rt,
             bytes.as_slice(),
             &[
-                ([1, 1, 0, 0], (6, 64, 0)),
-                ([1, 17, 0, 0], (6, 64, 0)),
+                ([1, 1, 0, 0], Some((6, 64, 0))),
+                ([1, 17, 0, 0], Some((6, 64, 0))),
                 ([3, 0, 0, 0], READ),
             ],
         )
@@ -269,97 +258,98 @@ mod tests {
     // The limit of facts counts the size as written, and comes before its range.
     #[test]
     fn facts(rt: HostRuntime) -> Result<(), Fail> {
-        let mut bytes = Vec::new(rt.alloc());
-        repeat(&mut bytes, 15, [1, 16, 0, 0])?;
+        let mut bytes = [1, 16, 0, 0].repeat(rt.alloc(), 15)?;
         check_after(
             &rt,
             bytes.as_slice(),
-            &[([1, 16, 0, 0], READ), ([1, 17, 0, 0], (6, 15, 0))],
+            &[([1, 16, 0, 0], READ), ([1, 17, 0, 0], Some((6, 15, 0)))],
         )?;
-        repeat(&mut bytes, 1, [1, 16, 0, 0])?;
+        bytes.extend_from_slice(&[1, 16, 0, 0])?;
         check_after(
             &rt,
             bytes.as_slice(),
-            &[([1, 1, 0, 0], (6, 16, 0)), ([1, 0, 0, 0], (4, 16, 1))],
+            &[
+                ([1, 1, 0, 0], Some((6, 16, 0))),
+                ([1, 0, 0, 0], Some((4, 16, 1))),
+            ],
         )
     }
 
     #[test]
     fn facts_before_17(rt: HostRuntime) -> Result<(), Fail> {
-        let mut bytes = Vec::new(rt.alloc());
-        repeat(&mut bytes, 14, [1, 16, 0, 0])?;
-        repeat(&mut bytes, 1, [1, 15, 0, 0])?;
+        let mut bytes = [1, 16, 0, 0].repeat(rt.alloc(), 14)?;
+        bytes.extend_from_slice(&[1, 15, 0, 0])?;
         check_after(
             &rt,
             bytes.as_slice(),
-            &[([1, 17, 0, 0], (4, 15, 1)), ([1, 18, 0, 0], (6, 15, 0))],
+            &[
+                ([1, 17, 0, 0], Some((4, 15, 1))),
+                ([1, 18, 0, 0], Some((6, 15, 0))),
+            ],
         )
     }
 
     #[test]
     fn actions(rt: HostRuntime) -> Result<(), Fail> {
-        let mut bytes = Vec::new(rt.alloc());
-        repeat(&mut bytes, 1, [1, 2, 0, 0])?;
-        repeat(&mut bytes, 512, [3, 0, 0, 0])?;
-        assert_eq!(rt; verdict(&rt, bytes.as_slice()), READ);
+        let mut bytes = [1, 2, 0, 0].to_vec(rt.alloc())?;
+        bytes.extend_from_slice([[3, 0, 0, 0]; 512].as_flattened())?;
+        assert_eq!(rt; verdict(&rt, bytes.as_slice())?, READ);
         check_after(
             &rt,
             bytes.as_slice(),
-            &[([3, 0, 0, 0], (6, 513, 0)), ([4, 0, 1, 0], READ)],
+            &[([3, 0, 0, 0], Some((6, 513, 0))), ([4, 0, 1, 0], READ)],
         )
     }
 
     // Nine variables, one action, and eight conditions; then eight effects too.
     #[test]
     fn conditions_and_effects(rt: HostRuntime) -> Result<(), Fail> {
-        let mut bytes = Vec::new(rt.alloc());
-        repeat(&mut bytes, 9, [1, 2, 0, 0])?;
-        repeat(&mut bytes, 1, [3, 0, 0, 0])?;
+        let mut bytes = [1, 2, 0, 0].repeat(rt.alloc(), 9)?;
+        bytes.extend_from_slice(&[3, 0, 0, 0])?;
         count(&mut bytes, 8, 4, 1)?;
-        assert_eq!(rt; verdict(&rt, bytes.as_slice()), READ);
+        assert_eq!(rt; verdict(&rt, bytes.as_slice())?, READ);
         check_after(
             &rt,
             bytes.as_slice(),
             &[
-                ([4, 8, 1, 0], (6, 18, 0)),
-                ([4, 0, 1, 0], (6, 18, 0)),
-                ([4, 9, 9, 0], (6, 18, 0)),
+                ([4, 8, 1, 0], Some((6, 18, 0))),
+                ([4, 0, 1, 0], Some((6, 18, 0))),
+                ([4, 9, 9, 0], Some((6, 18, 0))),
             ],
         )?;
         count(&mut bytes, 8, 5, 1)?;
-        assert_eq!(rt; verdict(&rt, bytes.as_slice()), READ);
+        assert_eq!(rt; verdict(&rt, bytes.as_slice())?, READ);
         check_after(
             &rt,
             bytes.as_slice(),
-            &[([5, 8, 1, 0], (6, 26, 0)), ([3, 0, 0, 0], READ)],
+            &[([5, 8, 1, 0], Some((6, 26, 0))), ([3, 0, 0, 0], READ)],
         )
     }
 
     #[test]
     fn short_lengths(rt: HostRuntime) -> Result<(), Fail> {
-        assert_eq!(rt; verdict(&rt, &[]), (1, 0, 0));
-        assert_eq!(rt; verdict(&rt, &[1]), (1, 0, 0));
-        assert_eq!(rt; verdict(&rt, &[1, 2]), (1, 0, 0));
-        assert_eq!(rt; verdict(&rt, &[1, 2, 0]), (1, 0, 0));
-        assert_eq!(rt; verdict(&rt, &[9, 9, 9, 9, 9]), (1, 0, 0));
+        assert_eq!(rt; verdict(&rt, &[])?, Some((1, 0, 0)));
+        assert_eq!(rt; verdict(&rt, &[1])?, Some((1, 0, 0)));
+        assert_eq!(rt; verdict(&rt, &[1, 2])?, Some((1, 0, 0)));
+        assert_eq!(rt; verdict(&rt, &[1, 2, 0])?, Some((1, 0, 0)));
+        assert_eq!(rt; verdict(&rt, &[9, 9, 9, 9, 9])?, Some((1, 0, 0)));
         Ok(())
     }
 
     // The longest paper: 64 variables, 64 goals, and 512 actions of 8 conditions and 8 effects.
     #[test]
     fn longest(rt: HostRuntime) -> Result<(), Fail> {
-        let mut bytes = Vec::new(rt.alloc());
-        repeat(&mut bytes, 64, [1, 2, 0, 0])?;
+        let mut bytes = [1, 2, 0, 0].repeat(rt.alloc(), 64)?;
         count(&mut bytes, 64, 2, 1)?;
         for _ in 0..512 {
-            repeat(&mut bytes, 1, [3, 0, 0, 0])?;
+            bytes.extend_from_slice(&[3, 0, 0, 0])?;
             count(&mut bytes, 8, 4, 0)?;
             count(&mut bytes, 8, 5, 1)?;
         }
         assert_eq!(rt; bytes.len(), 35328);
-        assert_eq!(rt; verdict(&rt, bytes.as_slice()), READ);
-        repeat(&mut bytes, 1, [9, 9, 9, 9])?;
-        assert_eq!(rt; verdict(&rt, bytes.as_slice()), (1, 0, 0));
+        assert_eq!(rt; verdict(&rt, bytes.as_slice())?, READ);
+        bytes.extend_from_slice(&[9, 9, 9, 9])?;
+        assert_eq!(rt; verdict(&rt, bytes.as_slice())?, Some((1, 0, 0)));
         Ok(())
     }
 
@@ -398,15 +388,16 @@ mod tests {
 
     // One variable of size 3 from 2 with the goal 1, and two actions from 0, to 1 and to 2.
     fn small(rt: &HostRuntime) -> Result<Paper, Fail> {
-        let mut bytes = Vec::new(rt.alloc());
-        repeat(&mut bytes, 1, [1, 3, 2, 0])?;
-        repeat(&mut bytes, 1, [2, 0, 1, 0])?;
-        repeat(&mut bytes, 1, [3, 0, 0, 0])?;
-        repeat(&mut bytes, 1, [4, 0, 0, 0])?;
-        repeat(&mut bytes, 1, [5, 0, 1, 0])?;
-        repeat(&mut bytes, 1, [3, 0, 0, 0])?;
-        repeat(&mut bytes, 1, [5, 0, 2, 0])?;
-        Ok(Paper::read(rt.alloc(), bytes.as_slice())?)
+        let records = [
+            [1, 3, 2, 0],
+            [2, 0, 1, 0],
+            [3, 0, 0, 0],
+            [4, 0, 0, 0],
+            [5, 0, 1, 0],
+            [3, 0, 0, 0],
+            [5, 0, 2, 0],
+        ];
+        Ok(Paper::read(rt.alloc(), records.as_flattened())?)
     }
 
     #[test]

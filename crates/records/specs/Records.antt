@@ -1,5 +1,5 @@
 -- Bytes as records of four.
-use Rattle.std.specs.Prelude.{◌≡◌, ℕ, ◌%◌, ◌<◌, ◌⊎◌, List, [], ◌∷◌, ◌≢◌}
+use Rattle.std.specs.Prelude.{◌≡◌, ℕ, ◌%◌, ◌<◌, ◌⊎◌, List, [], ◌∷◌, ◌≢◌, slice_index}
 use Rattle.records.specs.declared.record.Record.{Record}
 
 -- The records that bytes make, four bytes to a record; fewer than four at the end make none.
@@ -9,6 +9,10 @@ records (a ∷ []) = []
 records (a ∷ b ∷ []) = []
 records (a ∷ b ∷ c ∷ []) = []
 records (a ∷ b ∷ c ∷ d ∷ rest) = record { kind = a; one = b; two = c; three = d } ∷ records rest
+
+-- The record of four bytes.
+abbrev pub of_quad : List ℕ → Record
+of_quad q = record { kind = slice_index q 0; one = slice_index q 1; two = slice_index q 2; three = slice_index q 3 }
 
 -- A length that no paper or sheet has: 0, no multiple of 4, or above 35,328.
 abbrev pub BadLength : ℕ → Type 0

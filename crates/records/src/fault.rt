@@ -5,14 +5,14 @@ ghost use Rattle.records.specs.declared.fault.ReadFault.TheVariants.{Memory, Rec
 
 use std::alloc::AllocError;
 
-// Why a record is refused.
+// Why a record is refused, and the number that it goes by.
 #[derive(Clone, Copy, Debug, PartialEq)]
 pub enum Refusal {
-    Form,
-    Place,
-    Range,
-    Repeated,
-    Limit,
+    Form = 2,
+    Place = 3,
+    Range = 4,
+    Repeated = 5,
+    Limit = 6,
 }
 
 // Why, and at which byte of the record.
@@ -61,13 +61,7 @@ impl Refusal {
     pub fn number(self) -> u8
         ensures { result ≡ number_of self }
     {
-        match self {
-            Refusal::Form => 2,
-            Refusal::Place => 3,
-            Refusal::Range => 4,
-            Refusal::Repeated => 5,
-            Refusal::Limit => 6,
-        }
+        self as u8
     }
 
     // The layer of checks that it comes from.

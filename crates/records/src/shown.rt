@@ -9,10 +9,12 @@ impl fmt::Display for FaultLine {
     ghost output = { λ x. Some (printed x) };
 
     fn fmt<W: fmt::Write>(&self, f: &mut fmt::Formatter<W>) -> fmt::Result {
-        let layer = self.layer;
-        let number = self.number;
-        let place = self.place;
-        let byte = self.byte;
+        let FaultLine {
+            layer,
+            number,
+            place,
+            byte,
+        } = *self;
         write!(f, "E {layer} {number} {place} {byte}")
     }
 }

@@ -9,18 +9,19 @@ mod tests {
     use std::test::*;
     use task::task_source::TaskSource;
 
-    // The number, record and byte of a refusal, and 0 where the sheet is read.
-    type Verdict = (u8, usize, u8);
+    // The number, record and byte of a refusal; nothing where the sheet is read.
+    type Verdict = Option<(u8, usize, u8)>;
 
-    const READ: Verdict = (0, 0, 0);
+    const READ: Verdict = None;
 
-    fn verdict(rt: &impl AllocGlobal, bytes: &[u8]) -> Verdict {
+    // These helpers stand in paper_tests too: what stops a test may stand in tests alone, and no crate can call another's tests.
+    fn verdict(rt: &impl AllocGlobal, bytes: &[u8]) -> Result<Verdict, Fail> {
         match Sheet::read(rt.alloc(), bytes) {
-            Ok(_) => READ,
-            Err(fault) => match fault.line() {
-                Some(line) => (line.number, line.place, line.byte),
-                None => (99, 0, 0),
-            },
+            Ok(_) => Ok(READ),
+            Err(fault) => {
+                let line = fault.line().ok_or(fault)?;
+                Ok(Some((line.number, line.place, line.byte)))
+            }
         }
     }
 
@@ -30,18 +31,10 @@ mod tests {
         before: &[u8],
         cases: &[([u8; 4], Verdict)],
     ) -> Result<(), Fail> {
-        for case in cases {
+        for (record, expected) in cases {
             let mut bytes = before.to_vec(rt.alloc())?;
-            bytes.extend_from_slice(&case.0)?;
-            assert_eq!(rt; verdict(rt, bytes.as_slice()), case.1);
-        }
-        Ok(())
-    }
-
-    // Adds a record so many times.
-    fn repeat(bytes: &mut Vec<u8>, times: usize, record: [u8; 4]) -> Result<(), AllocError> {
-        for _ in 0..times {
-            bytes.extend_from_slice(&record)?;
+            bytes.extend_from_slice(record)?;
+            assert_eq!(rt; verdict(rt, bytes.as_slice())?, *expected);
         }
         Ok(())
     }
@@ -59,53 +52,53 @@ mod tests {
         // facts at the start
         (&[], [6, 0, 0, 0], READ),
         (&[], [6, 1, 0, 0], READ),
-        (&[], [6, 2, 0, 0], (4, 0, 1)),
-        (&[], [6, 255, 0, 0], (4, 0, 1)),
-        (&[], [6, 2, 1, 0], (2, 0, 2)),
+        (&[], [6, 2, 0, 0], Some((4, 0, 1))),
+        (&[], [6, 255, 0, 0], Some((4, 0, 1))),
+        (&[], [6, 2, 1, 0], Some((2, 0, 2))),
         // kinds of no form and of the other form
-        (&[], [0, 0, 0, 0], (2, 0, 0)),
-        (&[], [1, 3, 0, 0], (2, 0, 0)),
-        (&[], [5, 3, 3, 3], (2, 0, 0)),
-        (&[], [12, 0, 0, 0], (2, 0, 0)),
+        (&[], [0, 0, 0, 0], Some((2, 0, 0))),
+        (&[], [1, 3, 0, 0], Some((2, 0, 0))),
+        (&[], [5, 3, 3, 3], Some((2, 0, 0))),
+        (&[], [12, 0, 0, 0], Some((2, 0, 0))),
         // the same after a fact
-        (&[6, 1, 0, 0], [1, 3, 0, 0], (2, 1, 0)),
-        (&[6, 1, 0, 0], [12, 0, 0, 0], (2, 1, 0)),
+        (&[6, 1, 0, 0], [1, 3, 0, 0], Some((2, 1, 0))),
+        (&[6, 1, 0, 0], [12, 0, 0, 0], Some((2, 1, 0))),
         // unused bytes, lowest first
-        (&[6, 1, 0, 0], [6, 1, 1, 0], (2, 1, 2)),
-        (&[6, 1, 0, 0], [6, 1, 0, 1], (2, 1, 3)),
-        (&[6, 1, 0, 0], [7, 0, 1, 1], (2, 1, 2)),
-        (&[6, 1, 0, 0], [7, 0, 0, 1], (2, 1, 3)),
-        (&[6, 1, 0, 0], [8, 1, 1, 1], (2, 1, 1)),
-        (&[6, 1, 0, 0], [8, 0, 1, 1], (2, 1, 2)),
-        (&[6, 1, 0, 0], [8, 0, 0, 1], (2, 1, 3)),
+        (&[6, 1, 0, 0], [6, 1, 1, 0], Some((2, 1, 2))),
+        (&[6, 1, 0, 0], [6, 1, 0, 1], Some((2, 1, 3))),
+        (&[6, 1, 0, 0], [7, 0, 1, 1], Some((2, 1, 2))),
+        (&[6, 1, 0, 0], [7, 0, 0, 1], Some((2, 1, 3))),
+        (&[6, 1, 0, 0], [8, 1, 1, 1], Some((2, 1, 1))),
+        (&[6, 1, 0, 0], [8, 0, 1, 1], Some((2, 1, 2))),
+        (&[6, 1, 0, 0], [8, 0, 0, 1], Some((2, 1, 3))),
         // unused bytes of conditions, adds and deletes
-        (&[6, 1, 0, 0, 8, 0, 0, 0], [9, 0, 1, 0], (2, 2, 2)),
-        (&[6, 1, 0, 0, 8, 0, 0, 0], [9, 0, 0, 1], (2, 2, 3)),
-        (&[6, 1, 0, 0, 8, 0, 0, 0], [10, 0, 1, 0], (2, 2, 2)),
-        (&[6, 1, 0, 0, 8, 0, 0, 0], [10, 0, 0, 1], (2, 2, 3)),
-        (&[6, 1, 0, 0, 8, 0, 0, 0], [11, 0, 1, 0], (2, 2, 2)),
-        (&[6, 1, 0, 0, 8, 0, 0, 0], [11, 0, 0, 1], (2, 2, 3)),
+        (&[6, 1, 0, 0, 8, 0, 0, 0], [9, 0, 1, 0], Some((2, 2, 2))),
+        (&[6, 1, 0, 0, 8, 0, 0, 0], [9, 0, 0, 1], Some((2, 2, 3))),
+        (&[6, 1, 0, 0, 8, 0, 0, 0], [10, 0, 1, 0], Some((2, 2, 2))),
+        (&[6, 1, 0, 0, 8, 0, 0, 0], [10, 0, 0, 1], Some((2, 2, 3))),
+        (&[6, 1, 0, 0, 8, 0, 0, 0], [11, 0, 1, 0], Some((2, 2, 2))),
+        (&[6, 1, 0, 0, 8, 0, 0, 0], [11, 0, 0, 1], Some((2, 2, 3))),
         // the first record is a fact
-        (&[], [7, 0, 0, 0], (3, 0, 0)),
-        (&[], [8, 0, 0, 0], (3, 0, 0)),
-        (&[], [9, 9, 0, 0], (3, 0, 0)),
-        (&[], [10, 0, 0, 0], (3, 0, 0)),
-        (&[], [11, 0, 0, 0], (3, 0, 0)),
+        (&[], [7, 0, 0, 0], Some((3, 0, 0))),
+        (&[], [8, 0, 0, 0], Some((3, 0, 0))),
+        (&[], [9, 9, 0, 0], Some((3, 0, 0))),
+        (&[], [10, 0, 0, 0], Some((3, 0, 0))),
+        (&[], [11, 0, 0, 0], Some((3, 0, 0))),
         // after a fact
         (&[6, 1, 0, 0], [7, 0, 0, 0], READ),
         (&[6, 1, 0, 0], [8, 0, 0, 0], READ),
-        (&[6, 1, 0, 0], [9, 0, 0, 0], (3, 1, 0)),
-        (&[6, 1, 0, 0], [10, 0, 0, 0], (3, 1, 0)),
-        (&[6, 1, 0, 0], [11, 0, 0, 0], (3, 1, 0)),
+        (&[6, 1, 0, 0], [9, 0, 0, 0], Some((3, 1, 0))),
+        (&[6, 1, 0, 0], [10, 0, 0, 0], Some((3, 1, 0))),
+        (&[6, 1, 0, 0], [11, 0, 0, 0], Some((3, 1, 0))),
         // after a goal
-        (&[6, 1, 0, 0, 7, 0, 0, 0], [6, 1, 0, 0], (3, 2, 0)),
+        (&[6, 1, 0, 0, 7, 0, 0, 0], [6, 1, 0, 0], Some((3, 2, 0))),
         (&[6, 1, 0, 0, 7, 0, 0, 0], [8, 0, 0, 0], READ),
-        (&[6, 1, 0, 0, 7, 0, 0, 0], [9, 0, 0, 0], (3, 2, 0)),
-        (&[6, 1, 0, 0, 7, 0, 0, 0], [10, 0, 0, 0], (3, 2, 0)),
-        (&[6, 1, 0, 0, 7, 0, 0, 0], [11, 0, 0, 0], (3, 2, 0)),
+        (&[6, 1, 0, 0, 7, 0, 0, 0], [9, 0, 0, 0], Some((3, 2, 0))),
+        (&[6, 1, 0, 0, 7, 0, 0, 0], [10, 0, 0, 0], Some((3, 2, 0))),
+        (&[6, 1, 0, 0, 7, 0, 0, 0], [11, 0, 0, 0], Some((3, 2, 0))),
         // after an action
-        (&[6, 1, 0, 0, 8, 0, 0, 0], [6, 1, 0, 0], (3, 2, 0)),
-        (&[6, 1, 0, 0, 8, 0, 0, 0], [7, 0, 0, 0], (3, 2, 0)),
+        (&[6, 1, 0, 0, 8, 0, 0, 0], [6, 1, 0, 0], Some((3, 2, 0))),
+        (&[6, 1, 0, 0, 8, 0, 0, 0], [7, 0, 0, 0], Some((3, 2, 0))),
         (&[6, 1, 0, 0, 8, 0, 0, 0], [8, 0, 0, 0], READ),
         (&[6, 1, 0, 0, 8, 0, 0, 0], [9, 0, 0, 0], READ),
         (&[6, 1, 0, 0, 8, 0, 0, 0], [10, 0, 0, 0], READ),
@@ -114,87 +107,87 @@ mod tests {
         (
             &[6, 1, 0, 0, 8, 0, 0, 0, 9, 0, 0, 0],
             [6, 1, 0, 0],
-            (3, 3, 0),
+            Some((3, 3, 0)),
         ),
         (
             &[6, 1, 0, 0, 8, 0, 0, 0, 9, 0, 0, 0],
             [7, 0, 0, 0],
-            (3, 3, 0),
+            Some((3, 3, 0)),
         ),
         (&[6, 1, 0, 0, 8, 0, 0, 0, 9, 0, 0, 0], [8, 0, 0, 0], READ),
         // after an add
         (
             &[6, 1, 0, 0, 8, 0, 0, 0, 10, 0, 0, 0],
             [6, 1, 0, 0],
-            (3, 3, 0),
+            Some((3, 3, 0)),
         ),
         (
             &[6, 1, 0, 0, 8, 0, 0, 0, 10, 0, 0, 0],
             [7, 0, 0, 0],
-            (3, 3, 0),
+            Some((3, 3, 0)),
         ),
         (
             &[6, 1, 0, 0, 8, 0, 0, 0, 10, 0, 0, 0],
             [9, 0, 0, 0],
-            (3, 3, 0),
+            Some((3, 3, 0)),
         ),
         (&[6, 1, 0, 0, 8, 0, 0, 0, 10, 0, 0, 0], [8, 0, 0, 0], READ),
         // after a delete
         (
             &[6, 1, 0, 0, 8, 0, 0, 0, 11, 0, 0, 0],
             [6, 1, 0, 0],
-            (3, 3, 0),
+            Some((3, 3, 0)),
         ),
         (
             &[6, 1, 0, 0, 8, 0, 0, 0, 11, 0, 0, 0],
             [7, 0, 0, 0],
-            (3, 3, 0),
+            Some((3, 3, 0)),
         ),
         (
             &[6, 1, 0, 0, 8, 0, 0, 0, 11, 0, 0, 0],
             [9, 0, 0, 0],
-            (3, 3, 0),
+            Some((3, 3, 0)),
         ),
         (
             &[6, 1, 0, 0, 8, 0, 0, 0, 11, 0, 0, 0],
             [10, 0, 0, 0],
-            (3, 3, 0),
+            Some((3, 3, 0)),
         ),
         (&[6, 1, 0, 0, 8, 0, 0, 0, 11, 0, 0, 0], [8, 0, 0, 0], READ),
         // ranges, with two facts
         (&[6, 1, 0, 0, 6, 0, 0, 0], [7, 1, 0, 0], READ),
-        (&[6, 1, 0, 0, 6, 0, 0, 0], [7, 2, 0, 0], (4, 2, 1)),
+        (&[6, 1, 0, 0, 6, 0, 0, 0], [7, 2, 0, 0], Some((4, 2, 1))),
         // ranges of conditions, adds and deletes
         (&[6, 1, 0, 0, 6, 0, 0, 0, 8, 0, 0, 0], [9, 1, 0, 0], READ),
         (
             &[6, 1, 0, 0, 6, 0, 0, 0, 8, 0, 0, 0],
             [9, 2, 0, 0],
-            (4, 3, 1),
+            Some((4, 3, 1)),
         ),
         (&[6, 1, 0, 0, 6, 0, 0, 0, 8, 0, 0, 0], [10, 1, 0, 0], READ),
         (
             &[6, 1, 0, 0, 6, 0, 0, 0, 8, 0, 0, 0],
             [10, 2, 0, 0],
-            (4, 3, 1),
+            Some((4, 3, 1)),
         ),
         (&[6, 1, 0, 0, 6, 0, 0, 0, 8, 0, 0, 0], [11, 1, 0, 0], READ),
         (
             &[6, 1, 0, 0, 6, 0, 0, 0, 8, 0, 0, 0],
             [11, 255, 0, 0],
-            (4, 3, 1),
+            Some((4, 3, 1)),
         ),
         // repeats in the goal
         (
             &[6, 1, 0, 0, 6, 1, 0, 0, 7, 0, 0, 0],
             [7, 0, 0, 0],
-            (5, 3, 1),
+            Some((5, 3, 1)),
         ),
         (&[6, 1, 0, 0, 6, 1, 0, 0, 7, 0, 0, 0], [7, 1, 0, 0], READ),
         // repeats in conditions; a condition, an add and a delete may name one fact
         (
             &[6, 1, 0, 0, 6, 1, 0, 0, 8, 0, 0, 0, 9, 0, 0, 0],
             [9, 0, 0, 0],
-            (5, 4, 1),
+            Some((5, 4, 1)),
         ),
         (
             &[6, 1, 0, 0, 6, 1, 0, 0, 8, 0, 0, 0, 9, 0, 0, 0],
@@ -215,14 +208,14 @@ mod tests {
         (
             &[6, 1, 0, 0, 8, 0, 0, 0, 10, 0, 0, 0],
             [10, 0, 0, 0],
-            (5, 3, 1),
+            Some((5, 3, 1)),
         ),
         (&[6, 1, 0, 0, 8, 0, 0, 0, 10, 0, 0, 0], [11, 0, 0, 0], READ),
         // repeats in deletes
         (
             &[6, 1, 0, 0, 8, 0, 0, 0, 10, 0, 0, 0, 11, 0, 0, 0],
             [11, 0, 0, 0],
-            (5, 4, 1),
+            Some((5, 4, 1)),
         ),
         (
             &[6, 1, 0, 0, 8, 0, 0, 0, 10, 0, 0, 0, 11, 0, 0, 0],
@@ -233,55 +226,52 @@ mod tests {
 
     #[test]
     fn cases(rt: HostRuntime) -> Result<(), Fail> {
-        for case in &CASES {
-            check_after(&rt, case.0, &[(case.1, case.2)])?;
+        for (before, record, expected) in &CASES {
+            check_after(&rt, before, &[(*record, *expected)])?;
         }
         Ok(())
     }
 
     #[test]
     fn facts(rt: HostRuntime) -> Result<(), Fail> {
-        let mut bytes = Vec::new(rt.alloc());
-        repeat(&mut bytes, 64, [6, 1, 0, 0])?;
-        assert_eq!(rt; verdict(&rt, bytes.as_slice()), READ);
+        let bytes = [6, 1, 0, 0].repeat(rt.alloc(), 64)?;
+        assert_eq!(rt; verdict(&rt, bytes.as_slice())?, READ);
         check_after(
             &rt,
             bytes.as_slice(),
             &[
-                ([6, 1, 0, 0], (6, 64, 0)),
-                ([6, 2, 0, 0], (6, 64, 0)),
+                ([6, 1, 0, 0], Some((6, 64, 0))),
+                ([6, 2, 0, 0], Some((6, 64, 0))),
                 ([7, 63, 0, 0], READ),
-                ([7, 64, 0, 0], (4, 64, 1)),
+                ([7, 64, 0, 0], Some((4, 64, 1))),
             ],
         )
     }
 
     #[test]
     fn actions(rt: HostRuntime) -> Result<(), Fail> {
-        let mut bytes = Vec::new(rt.alloc());
-        repeat(&mut bytes, 1, [6, 1, 0, 0])?;
-        repeat(&mut bytes, 512, [8, 0, 0, 0])?;
-        assert_eq!(rt; verdict(&rt, bytes.as_slice()), READ);
+        let mut bytes = [6, 1, 0, 0].to_vec(rt.alloc())?;
+        bytes.extend_from_slice([[8, 0, 0, 0]; 512].as_flattened())?;
+        assert_eq!(rt; verdict(&rt, bytes.as_slice())?, READ);
         check_after(
             &rt,
             bytes.as_slice(),
-            &[([8, 0, 0, 0], (6, 513, 0)), ([11, 0, 0, 0], READ)],
+            &[([8, 0, 0, 0], Some((6, 513, 0))), ([11, 0, 0, 0], READ)],
         )
     }
 
     #[test]
     fn conditions(rt: HostRuntime) -> Result<(), Fail> {
-        let mut bytes = Vec::new(rt.alloc());
-        repeat(&mut bytes, 9, [6, 1, 0, 0])?;
-        repeat(&mut bytes, 1, [8, 0, 0, 0])?;
+        let mut bytes = [6, 1, 0, 0].repeat(rt.alloc(), 9)?;
+        bytes.extend_from_slice(&[8, 0, 0, 0])?;
         count(&mut bytes, 8, 9)?;
-        assert_eq!(rt; verdict(&rt, bytes.as_slice()), READ);
+        assert_eq!(rt; verdict(&rt, bytes.as_slice())?, READ);
         check_after(
             &rt,
             bytes.as_slice(),
             &[
-                ([9, 8, 0, 0], (6, 18, 0)),
-                ([9, 0, 0, 0], (6, 18, 0)),
+                ([9, 8, 0, 0], Some((6, 18, 0))),
+                ([9, 0, 0, 0], Some((6, 18, 0))),
                 ([10, 8, 0, 0], READ),
             ],
         )
@@ -294,9 +284,8 @@ mod tests {
         deletes: u8,
         cases: &[([u8; 4], Verdict)],
     ) -> Result<(), Fail> {
-        let mut bytes = Vec::new(rt.alloc());
-        repeat(&mut bytes, 9, [6, 1, 0, 0])?;
-        repeat(&mut bytes, 1, [8, 0, 0, 0])?;
+        let mut bytes = [6, 1, 0, 0].repeat(rt.alloc(), 9)?;
+        bytes.extend_from_slice(&[8, 0, 0, 0])?;
         count(&mut bytes, adds, 10)?;
         count(&mut bytes, deletes, 11)?;
         check_after(rt, bytes.as_slice(), cases)
@@ -313,9 +302,9 @@ mod tests {
             8,
             0,
             &[
-                ([10, 8, 0, 0], (6, 18, 0)),
-                ([11, 8, 0, 0], (6, 18, 0)),
-                ([11, 0, 0, 0], (6, 18, 0)),
+                ([10, 8, 0, 0], Some((6, 18, 0))),
+                ([11, 8, 0, 0], Some((6, 18, 0))),
+                ([11, 0, 0, 0], Some((6, 18, 0))),
             ],
         )?;
         after_effects(
@@ -323,38 +312,39 @@ mod tests {
             0,
             8,
             &[
-                ([11, 8, 0, 0], (6, 18, 0)),
-                ([10, 8, 0, 0], (3, 18, 0)),
+                ([11, 8, 0, 0], Some((6, 18, 0))),
+                ([10, 8, 0, 0], Some((3, 18, 0))),
                 ([8, 0, 0, 0], READ),
             ],
         )?;
-        after_effects(&rt, 5, 3, &[([11, 8, 0, 0], (6, 18, 0))])
+        after_effects(&rt, 5, 3, &[([11, 8, 0, 0], Some((6, 18, 0)))])
     }
 
     #[test]
     fn lengths(rt: HostRuntime) -> Result<(), Fail> {
-        assert_eq!(rt; verdict(&rt, &[]), (1, 0, 0));
-        assert_eq!(rt; verdict(&rt, &[6, 1, 0]), (1, 0, 0));
-        assert_eq!(rt; verdict(&rt, &[6, 1, 0, 0, 6]), (1, 0, 0));
-        let mut bytes = Vec::new(rt.alloc());
-        repeat(&mut bytes, 8832, [6, 1, 0, 0])?;
-        assert_eq!(rt; verdict(&rt, bytes.as_slice()), (6, 64, 0));
-        repeat(&mut bytes, 1, [6, 1, 0, 0])?;
-        assert_eq!(rt; verdict(&rt, bytes.as_slice()), (1, 0, 0));
+        assert_eq!(rt; verdict(&rt, &[])?, Some((1, 0, 0)));
+        assert_eq!(rt; verdict(&rt, &[6, 1, 0])?, Some((1, 0, 0)));
+        assert_eq!(rt; verdict(&rt, &[6, 1, 0, 0, 6])?, Some((1, 0, 0)));
+        let mut bytes = [6, 1, 0, 0].repeat(rt.alloc(), 8832)?;
+        assert_eq!(rt; verdict(&rt, bytes.as_slice())?, Some((6, 64, 0)));
+        bytes.extend_from_slice(&[6, 1, 0, 0])?;
+        assert_eq!(rt; verdict(&rt, bytes.as_slice())?, Some((1, 0, 0)));
         Ok(())
     }
 
     // Two facts, of which the second holds; the goal is the first; the action needs the second, adds the first and deletes both.
     fn small(rt: &HostRuntime) -> Result<Sheet, Fail> {
-        let mut bytes = Vec::new(rt.alloc());
-        repeat(&mut bytes, 1, [6, 0, 0, 0])?;
-        repeat(&mut bytes, 1, [6, 1, 0, 0])?;
-        repeat(&mut bytes, 1, [7, 0, 0, 0])?;
-        repeat(&mut bytes, 1, [8, 0, 0, 0])?;
-        repeat(&mut bytes, 1, [9, 1, 0, 0])?;
-        repeat(&mut bytes, 1, [10, 0, 0, 0])?;
-        count(&mut bytes, 2, 11)?;
-        Ok(Sheet::read(rt.alloc(), bytes.as_slice())?)
+        let records = [
+            [6, 0, 0, 0],
+            [6, 1, 0, 0],
+            [7, 0, 0, 0],
+            [8, 0, 0, 0],
+            [9, 1, 0, 0],
+            [10, 0, 0, 0],
+            [11, 0, 0, 0],
+            [11, 1, 0, 0],
+        ];
+        Ok(Sheet::read(rt.alloc(), records.as_flattened())?)
     }
 
     #[test]
