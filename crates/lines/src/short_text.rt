@@ -3,10 +3,10 @@ ghost use Rattle.std.specs.Prelude.{◌≡◌, ℕ, ◌+◌, ◌<◌, ◌≤◌,
 
 use std::marker::Model;
 
-// As many bytes as the longest line may have.
+// As many bytes as a buffer must have: every line fits.
 pub(crate) const CAPACITY: usize = 32;
 
-// A text of at most that many bytes: an array and a length, since a `String` may run out of memory.
+// A text of at most that many bytes: an array and a length, since a `String` may find no memory.
 #[derive(Drop)]
 pub(crate) struct ShortText {
     bytes: [u8; CAPACITY],

@@ -1,5 +1,6 @@
 -- The task that lists of variables and actions hold.
-use Rattle.std.specs.Prelude.{◌≡◌, ℕ, ◌<◌, false, List, [], length, get_or, None, slice_index_or}
+use Rattle.std.specs.List.{range_with_len}
+use Rattle.std.specs.Prelude.{ℕ, false, List, [], length, get_or, map, None, Option, slice_index_or}
 use Rattle.task.specs.Task.{Task}
 use Rattle.table.specs.declared.action.Action.{Action}
 use Rattle.table.specs.declared.variable.Variable.{Variable}
@@ -16,11 +17,13 @@ no_action = record { present = false; needs = []; effects = [] }
 abbrev pub variable_of : Task → ℕ → Variable
 variable_of t v = record { size = t.size v; start = t.start v; goal = t.goal v }
 
--- the action says what the task says of the one with that number
-pub record Copied (t : Task) (a : ℕ) (x : Action) : Type 0 where
-  pub present : x.present ≡ t.present a
-  pub needs : (v : ℕ) → slice_index_or x.needs v None ≡ t.need a v
-  pub effects : (v : ℕ) → slice_index_or x.effects v None ≡ t.give a v
+-- the values of the variables that there may be
+unfoldable pub places : (ℕ → Option ℕ) → List (Option ℕ)
+places f = map f (range_with_len 0 64)
+
+-- a task's action with a number
+abbrev pub action_of : Task → ℕ → Action
+action_of t a = record { present = t.present a; needs = places (t.need a); effects = places (t.give a) }
 
 -- the task of such lists
 abbrev pub table_task : List Variable → List Action → Task
@@ -34,8 +37,3 @@ table_task variables actions = record {
   need = λ a v. slice_index_or (get_or actions a no_action).needs v None;
   give = λ a v. slice_index_or (get_or actions a no_action).effects v None;
 }
-
--- the list has n elements, and P k holds of the one at k
-pub record Filled {A : Type 0} (n : ℕ) (P : ℕ → A → Type 0) (xs : List A) : Type 0 where
-  pub long : length xs ≡ n
-  pub at : (k : ℕ) (d : A) → k < n → P k (slice_index_or xs k d)

@@ -2,7 +2,7 @@
 ghost use Rattle.std.specs.List.{range_with_len};
 ghost use Rattle.std.specs.Prelude.{◌≡◌, ℕ, ◌<◌, IfOk, None, Some, map, slice_index_or};
 ghost use Rattle.table.specs.Meaning.{held};
-ghost use Rattle.table.specs.Table.{Copied, Filled, variable_of};
+ghost use Rattle.table.specs.Table.{action_of, variable_of};
 
 use crate::action::{Action, PLACES};
 use crate::task_table::TaskTable;
@@ -44,7 +44,7 @@ fn copy_variable<S: TaskSource>(source: &S, variable: usize) -> Variable
 
 // What the source answers of one action.
 fn copy_action<S: TaskSource>(source: &S, action: usize) -> Action
-    ensures { Copied (S.task source.now) action result }
+    ensures { result ≡ action_of (S.task source.now) action }
 {
     Action {
         present: source.is_present(action),
@@ -64,13 +64,11 @@ fn copy_variables<S: TaskSource>(heap: Global, source: &S) -> Result<Vec<Variabl
 
 // What the source answers of every action.
 fn copy_actions<S: TaskSource>(heap: Global, source: &S) -> Result<Vec<Action>, AllocError>
-    ensures { IfOk result (λ xs. Filled (S.task source.now).actions (Copied (S.task source.now)) xs.items) }
+    ensures { IfOk result (λ xs. xs.items ≡ map (action_of (S.task source.now)) (range_with_len 0 (S.task source.now).actions)) }
 {
-    let mut actions = Vec::new(heap);
-    for action in 0..source.actions() {
-        actions.push(copy_action(source, action))?;
-    }
-    Ok(actions)
+    (0..source.actions())
+        .map(|action| copy_action(source, action))
+        .collect(heap)
 }
 
 impl TaskTable {
