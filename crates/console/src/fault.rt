@@ -22,12 +22,12 @@ impl ProgramFault {
     {
         match self {
             ProgramFault::Read(fault) => fault.line(),
-            ProgramFault::Memory => None,
-            ProgramFault::Unreadable => None,
+            ProgramFault::Memory | ProgramFault::Unreadable => None,
         }
     }
 }
 
+// By hand, since what `?` makes of an error stands in a contract.
 impl From<ReadFault> for ProgramFault {
     ghost from_gives = { λ e r. r ≡ Read e };
 

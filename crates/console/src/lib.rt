@@ -3,4 +3,5 @@
 
 pub mod fault;
 pub mod input;
+pub mod levels;
 pub mod output;

@@ -1,27 +1,20 @@
 -- Where a cursor stands in the lines of a key, and what is answered from there.
-use Rattle.std.specs.Prelude.{◌≡◌, ℕ, ◌+◌, ◌-◌, ◌<◌, ◌≤◌, Some, None, Option, MatchOption}
+use Rattle.std.specs.Prelude.{◌≡◌, ℕ, ◌+◌, ◌-◌, ◌≤◌, Some, None, Option}
 use Rattle.task.specs.Task.{Task, facts}
 use Rattle.reach.specs.Built.{LevelsBuilt}
-use Rattle.rules.specs.Machine.{Machine, Count, Lowest}
+use Rattle.key.specs.Keys.{Shows, task_of}
+use Rattle.rules.specs.Machine.{Machine, Count}
 use Rattle.lines.specs.declared.line.Line.{Line}
 use Rattle.key_text.specs.declared.cursor.Cursor.{Cursor}
 use Rattle.listing.specs.Listing.{HeldAt, OrderedAt, LineAt, LineCount}
 
--- a number from another on and below a limit that satisfies P
-abbrev pub Ahead : (ℕ → Type 0) → ℕ → ℕ → ℕ → Type 0
-Ahead P from limit n = (from ≤ n) × (n < limit) × P n
-
--- the lowest such number, if there is one
-abbrev pub Next : (ℕ → Type 0) → ℕ → ℕ → Option ℕ → Type 0
-Next P from limit r = MatchOption r ((n : ℕ) → Ahead P from limit n → ⊥) (Lowest (Ahead P from limit))
-
 -- the cursor knows the levels and stands before the line with a number: so many facts of the key are below its fact and no pair is before its place; or it is past the facts, and so many ordered pairs are before its place
 pub data Stands (t : Task) (m : Machine) (x : Cursor) : ℕ → Type 0 where
   at_facts :
-      {i : ℕ} → LevelsBuilt t x.levels → x.fact ≤ facts t → Count (HeldAt m) x.fact i → x.place ≡ 0
+      {i : ℕ} → LevelsBuilt t x.levels.table → x.fact ≤ facts t → Count (HeldAt m) x.fact i → x.place ≡ 0
       → Stands t m x i
   at_pairs :
-      {i j : ℕ} → LevelsBuilt t x.levels → x.fact ≡ facts t → Count (HeldAt m) (facts t) i → x.place ≤ 65536
+      {i j : ℕ} → LevelsBuilt t x.levels.table → x.fact ≡ facts t → Count (HeldAt m) (facts t) i → x.place ≤ 65536
       → Count (OrderedAt m) x.place j
       → Stands t m x (i + j)
 
@@ -29,6 +22,13 @@ pub data Stands (t : Task) (m : Machine) (x : Cursor) : ℕ → Type 0 where
 abbrev pub Passed : Task → Machine → ℕ → Cursor → Option Line → Type 0
 Passed t m n left (Some x) = LineAt t m n x × Stands t m left (n + 1)
 Passed t m n left None = LineCount t m n
+
+-- a call on a cursor keeps its key, and answers the line at which it stood and moves it on, whatever machine the key shows
+pub record Moves (before : Cursor) (r : Option Line) (left : Cursor) : Type 0 where
+  pub key : left.key.now ≡ before.key.now
+  pub passed :
+      (m : Machine) (n : ℕ) → Shows before.key.now m → Stands (task_of before.key.now) m before n
+      → Passed (task_of before.key.now) m n left r
 
 -- how many facts and places of pairs are still to come
 abbrev pub unlisted : Task → Cursor → ℕ

@@ -1,41 +1,38 @@
 -- Lines from what the searches found.
-use Rattle.std.proofs.Common.{◌≡◌, ℕ, ◌+◌, ◌-◌, ◌*◌, ◌/◌, ◌%◌, ◌<◌, ◌≤◌, List, ◌++◌, length, get_or, drop, None, Option, sym, ap, ◌∙◌, subst, inl, inr, arith, length-append}
-use Rattle.std.proofs.lemmas.List.{get_or_default}
+use Rattle.std.proofs.Common.{◌≡◌, ℕ, ◌+◌, ◌-◌, ◌*◌, ◌/◌, ◌%◌, ◌<◌, ◌≤◌, List, ◌++◌, length, drop, Bool, true, ◌||◌, ◌⊎◌, ⊎_elim, refl, false, Some, None, Option, IsSome, Decides, Ok, Err, Result, MatchResult, sym, ap, ◌∙◌, subst, arith, length-append}
+use Rattle.std.proofs.lemmas.Bool.{or_cases, or_left, or_right, false_from_ne_true, false≢true}
 use Rattle.task.specs.Task.{Task, Fact as TaskFact, Lawful, Numbered, facts}
 use Rattle.task.specs.Facts.{Exactly}
 use Rattle.task.specs.Single.{is_lawful}
 use Rattle.task.proofs.Numbers.{numbered}
 use Rattle.task.proofs.Options.{no_some}
-use Rattle.reach.specs.declared.measure.AtLevel.{AtLevel}
-use Rattle.reach.specs.Built.{LevelIs, LevelsBuilt, TooShort}
-use Rattle.reach.specs.Measures.{layer_of, of_level}
+use Rattle.reach.specs.Relaxed.{GoalInReach}
+use Rattle.rules.specs.declared.calls.Kind.TheVariants.{Greedy, Necessary}
 use Rattle.rules.specs.Machine.{Machine, Count}
+use Rattle.judging.proofs.Sums.{count_as}
 use Rattle.key.specs.declared.keys.Key.{Key}
 use Rattle.key.specs.Keys.{task_of}
+use Rattle.lines.specs.declared.line.Line.{Line}
 use Rattle.lines.specs.declared.line.FactLine.{FactLine}
 use Rattle.lines.specs.declared.line.OrderLine.{OrderLine}
 use Rattle.lines.specs.declared.line.Line.TheVariants.{Fact, Order}
-use Rattle.listing.specs.Listing.{HeldAt, OrderedAt, InAnyKind, shown_kind, FactShown, OrderShown, LineAt, LineAt.fact_line_lem, LineAt.order_line_lem}
+use Rattle.listing.specs.declared.refusal.ListingRefusal.{ListingRefusal}
+use Rattle.listing.specs.declared.refusal.ListingRefusal.TheVariants.{NoSuchLine}
+use Rattle.listing.specs.Finding.{Sought, Lined}
+use Rattle.listing.specs.Listing.{HeldAt, OrderedAt, InAnyKind, shown_kind, FactShown, OrderShown, LineAt, Refused, LineAt.fact_line_lem, LineAt.order_line_lem}
 
 -- a key's task keeps the limits
 pub key_lawful : (k : Key) → Lawful (task_of k)
 key_lawful k = is_lawful (task_of k) k.marker.source.lawful
 
 -- a number below the facts has a fact
-pub never_none : (t : Task) (n : ℕ) (r : Option TaskFact) → n < facts t → Exactly (Numbered t n) r → r ≡ None → ⊥
-never_none t n r below exact e = let (f, is) = numbered t n below in no_some f (sym e ∙ exact.found f is)
+pub has_fact : (t : Task) (n : ℕ) (r : Option TaskFact) → n < facts t → Exactly (Numbered t n) r → IsSome r
+has_fact t n (Some f) below exact = refl
+has_fact t n None below exact = let (f, is) = numbered t n below in absurd (no_some f (exact.found f is))
 
--- tables of 256 places are long enough
-pub never_short : {t : Task} → Lawful t → (a b x y : List AtLevel) → length a ≡ 256 → length b ≡ 256 → TooShort t a b x y → ⊥
-never_short law a b x y la lb short = elim short.short [ inl l ↦ omega (arith, law.few_facts) | inr l ↦ omega (arith, law.few_facts) ]
-
--- a level read from the table
-pub level_read : {t t' : Task} (levels : List AtLevel) (n : ℕ) (o : Option ℕ) → t ≡ t' → LevelsBuilt t levels → n < length levels → o ≡ layer_of (get_or levels n (of_level 0)) → (f : TaskFact) → Numbered t' n f → LevelIs t' f o
-level_read {t} {t'} levels n o e built long is =
-    subst (λ (u : Task). (f : TaskFact) → Numbered u n f → LevelIs u f o) e (λ f d. subst (LevelIs t f) (sym (is ∙ ap layer_of (sym read))) (built n f d))
-  where
-    read : get_or levels n (of_level 65535) ≡ get_or levels n (of_level 0)
-    read = get_or_default levels n (of_level 65535) (of_level 0) long
+-- the fact of a number, by a task's other name
+pub fact_of : (t u : Task) (n : ℕ) (r : Option TaskFact) (f : TaskFact) → t ≡ u → Exactly (Numbered t n) r → r ≡ Some f → Numbered u n f
+fact_of t u n r f e exact is = subst (λ (v : Task). Numbered v n f) e (exact.right f is)
 
 -- the line of a fact that was found
 pub line_of_fact : {t : Task} {m : Machine} (x : FactLine) (n i : ℕ) → x.number ≡ n → HeldAt m n × Count (HeldAt m) n i → FactShown t x → LineAt t m i (Fact x)
@@ -60,6 +57,45 @@ line_of_pair {t} {m} x k i number low e l kind (here, count) held few =
       ordered = subst (λ (a : ℕ). InAnyKind m a x.later) (sym e) (subst (InAnyKind m (k / 256)) (sym l) here);
       kind = subst (λ (a : ℕ). x.kind ≡ shown_kind m a x.later) (sym e) (subst (λ (b : ℕ). x.kind ≡ shown_kind m (k / 256) b) (sym l) kind);
     }
+
+-- one of two tests
+or_of : (x y : Bool) → (x ≡ true) ⊎ (y ≡ true) → (x || y) ≡ true
+or_of x y = ⊎_elim (or_left x y) (or_right x y)
+
+-- whether the pair at a place is ordered, in any kind
+abbrev pub any_kind : Machine → ℕ → Bool
+any_kind m k = m.ordered Greedy (k / 256) (k % 256) || m.ordered Necessary (k / 256) (k % 256)
+
+-- what says whether a pair is ordered says that
+pub says_any : (m : Machine) (b : Bool) (k e l : ℕ) → e ≡ k / 256 → l ≡ k % 256 → Decides b (InAnyKind m e l) → b ≡ any_kind m k
+says_any m b k e l he hl d = go b (subst (λ (i : ℕ). Decides b (InAnyKind m i (k % 256))) he (subst (λ (j : ℕ). Decides b (InAnyKind m e j)) hl d))
+  where
+    go : (b : Bool) → Decides b (OrderedAt m k) → b ≡ any_kind m k
+    go true d = sym (or_of _ _ (d.0 refl))
+    go false d = sym (false_from_ne_true _ (λ e. false≢true (d.1 (or_cases _ _ e))))
+
+-- so a pair is ordered, or not
+pub is_any : (m : Machine) (k : ℕ) → true ≡ any_kind m k → OrderedAt m k
+is_any m k e = or_cases _ _ (sym e)
+
+pub not_any : (m : Machine) (k : ℕ) → false ≡ any_kind m k → OrderedAt m k → ⊥
+not_any m k e o = false≢true (e ∙ or_of _ _ o)
+
+-- a search by that finds ordered pairs
+pub pairs_sought : (m : Machine) (index : ℕ) (r : Result ℕ ℕ) → Sought (λ k. any_kind m k ≡ true) 65536 index r → Sought (OrderedAt m) 65536 index r
+pairs_sought m index (Ok k) (here, count) = (or_cases _ _ here, count_as (λ j low. or_cases _ _) (λ j low. or_of _ _) count)
+pairs_sought m index (Err c) count = count_as (λ j low. or_cases _ _) (λ j low. or_of _ _) count
+
+-- the refusal of a number that no line has
+pub no_such_line : (t : Task) (m : Machine) (number room : ℕ) (r : Result Line ℕ) (told : Result Line ListingRefusal) (e : ListingRefusal) → GoalInReach t → 32 ≤ room → Lined t m number r → MatchResult r (λ x. told ≡ Ok x) (λ n. told ≡ Err (NoSuchLine n)) → told ≡ Err e → Refused t m number room e
+no_such_line t m number room (Ok x) told e reach wide lined is told_is = absurd (apart (sym is ∙ told_is))
+  where
+    apart : Ok x ≡ Err e → ⊥
+    apart h = cc
+no_such_line t m number room (Err n) told e reach wide (count, low) is told_is = subst (Refused t m number room) same (reach, wide, count, low)
+  where
+    same : NoSuchLine n ≡ e
+    same = cc
 
 -- a text in front of a list is no longer than the whole
 pub front_fits : (before text left : List ℕ) (n : ℕ) → n ≡ length text → left ≡ text ++ drop n before → n ≤ length left

@@ -10,7 +10,7 @@ use key::keys::Key;
 use lines::write::write_line;
 
 // Writes the line of the key with a number, counted from 0, to the front of a buffer, and answers its length. A refusal leaves the
-// buffer as it was.
+// buffer as it was. Into a buffer of the caller's and not a `String`: it takes no memory, so it cannot fail for want of it.
 pub fn list_line(key: &Key, number: usize, buffer: &mut [u8]) -> Result<usize, ListingRefusal>
     ensures fits { IfOk result (λ n. n ≤ length buffer.new) }
     ensures listed { (m : Machine) → Shows key.now m → Listed (task_of key.now) m number buffer.old buffer.new result }
@@ -21,13 +21,7 @@ pub fn list_line(key: &Key, number: usize, buffer: &mut [u8]) -> Result<usize, L
     if buffer.len() < 32 {
         return Err(ListingRefusal::ShortBuffer(buffer.len()));
     }
-    match line_at(key, number) {
-        Ok(line) => {
-            let Some(written) = write_line(line, buffer) else {
-                return Ok(unreachable());
-            };
-            Ok(written)
-        }
-        Err(count) => Err(ListingRefusal::NoSuchLine(count)),
-    }
+    let line = line_at(key, number).map_err(ListingRefusal::NoSuchLine)?;
+    let written = write_line(line, buffer).unwrap();
+    Ok(written)
 }

@@ -3,7 +3,7 @@ ghost use Rattle.listing.specs.Refusals.{given_back, refusal_number};
 ghost use Rattle.std.specs.Prelude.{◌≡◌};
 
 // The lowest goal fact out of reach; the length of a buffer that is too short; the number of lines, where there are no more.
-#[derive(Clone, Copy, Debug, PartialEq)]
+#[derive(Clone, Copy, Debug, PartialEq, Eq)]
 pub enum ListingRefusal {
     GoalOutOfReach(usize),
     ShortBuffer(usize),
@@ -11,7 +11,7 @@ pub enum ListingRefusal {
 }
 
 impl ListingRefusal {
-    // The number of a refusal.
+    // The number of a refusal; by a match, since a cast reads no variant that holds a value.
     pub fn number(self) -> u8
         ensures { result ≡ refusal_number self }
     {
@@ -27,9 +27,9 @@ impl ListingRefusal {
         ensures { result ≡ given_back self }
     {
         match self {
-            ListingRefusal::GoalOutOfReach(n) => n,
-            ListingRefusal::ShortBuffer(n) => n,
-            ListingRefusal::NoSuchLine(n) => n,
+            ListingRefusal::GoalOutOfReach(n)
+            | ListingRefusal::ShortBuffer(n)
+            | ListingRefusal::NoSuchLine(n) => n,
         }
     }
 }

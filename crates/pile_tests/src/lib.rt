@@ -6,6 +6,7 @@ mod tests {
     use paper::paper::Paper;
     use reach::measure::AtLevel;
     use reach::reach::build_levels;
+    use std::array;
     use std::test::Fail;
     use task::barred::Barred;
     use task::restarted::Restarted;
@@ -25,11 +26,7 @@ mod tests {
         let mut levels = [AtLevel { level: 7 }; 256];
         let mut scratch = [AtLevel { level: 7 }; 256];
         let layers = build_levels(source, &mut levels, &mut scratch);
-        let mut found = [None; 13];
-        for number in 0..13 {
-            found[number] = levels[number].layer();
-        }
-        (layers, found)
+        (layers, array::from_fn(|number| levels[number].layer()))
     }
 
     // Powered, clocked and out of reset, but the debug port stays closed: the core is halted through reset.

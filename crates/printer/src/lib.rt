@@ -2,3 +2,4 @@
 #![tactic(auto)]
 
 pub mod print;
+pub mod program;

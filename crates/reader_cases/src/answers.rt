@@ -7,15 +7,13 @@ use task::task_source::TaskSource;
 
 // A value, or a minus sign for none.
 #[derive(Clone, Copy)]
-struct Value {
-    value: Option<usize>,
-}
+struct Value(Option<usize>);
 
 impl fmt::Display for Value {
     ghost output = { λ _. None };
 
     fn fmt<W: fmt::Write>(&self, f: &mut fmt::Formatter<W>) -> fmt::Result {
-        match self.value {
+        match self.0 {
             Some(value) => write!(f, "{value}"),
             None => write!(f, "-"),
         }
@@ -36,9 +34,7 @@ fn print_variables<S: TaskSource>(rt: &HostRuntime, source: &S) -> io::Result<()
     for variable in 0..=source.variables() {
         let size = source.size(variable);
         let start = source.start(variable);
-        let goal = Value {
-            value: source.goal(variable),
-        };
+        let goal = Value(source.goal(variable));
         print!(rt; " {size}/{start}/{goal}")?;
     }
     Ok(())
@@ -52,12 +48,8 @@ fn print_action<S: TaskSource>(rt: &HostRuntime, source: &S, action: usize) -> i
         print!(rt; "; absent")?;
     }
     for variable in 0..=source.variables() {
-        let need = Value {
-            value: source.need(action, variable),
-        };
-        let effect = Value {
-            value: source.effect(action, variable),
-        };
+        let need = Value(source.need(action, variable));
+        let effect = Value(source.effect(action, variable));
         print!(rt; " {need}>{effect}")?;
     }
     Ok(())

@@ -22,7 +22,7 @@ fn pair_byte(pair: &[u8]) -> Result<u8, ProgramFault> {
 // Adds the bytes that a word of digits writes.
 fn add_digits(bytes: &mut Vec<u8>, digits: &[u8]) -> Result<(), ProgramFault> {
     for pair in digits.chunks(2) {
-        bytes.extend_from_slice(&[pair_byte(pair)?])?;
+        bytes.push(pair_byte(pair)?)?;
     }
     Ok(())
 }
@@ -31,10 +31,10 @@ fn add_digits(bytes: &mut Vec<u8>, digits: &[u8]) -> Result<(), ProgramFault> {
 fn counted(word: &str) -> Result<(usize, &str), ProgramFault> {
     match word.split_once('*') {
         None => Ok((1, word)),
-        Some((count, digits)) => match count.parse::<usize>() {
-            Ok(count) => Ok((count, digits)),
-            Err(_) => Err(ProgramFault::Unreadable),
-        },
+        Some((count, digits)) => {
+            let count = count.parse::<usize>().ok();
+            Ok((count.ok_or(ProgramFault::Unreadable)?, digits))
+        }
     }
 }
 

@@ -9,31 +9,23 @@ use answers::{print_answers, print_counts};
 use bytes::case_bytes;
 use console::fault::ProgramFault;
 use console::output::print_fault;
-use paper::paper::Paper;
-use sheet::sheet::Sheet;
+use forms::document::Document;
+use forms::form::RecordForm;
+use paper::form::PaperForm;
+use sheet::form::SheetForm;
 use std::io;
 use std::io::{BufRead, BufReader};
 
-// Reads a paper and prints its counts, or the whole of what it answers.
-fn run_paper(rt: &HostRuntime, bytes: &[u8], whole: bool) -> Result<(), ProgramFault> {
-    let paper = Paper::read(rt.alloc(), bytes)?;
-    if whole {
-        print_answers(rt, &paper)?;
-    } else {
-        print_counts(rt, &paper)?;
-    }
-    Ok(())
-}
-
-// The same of a sheet.
-fn run_sheet(rt: &HostRuntime, bytes: &[u8], whole: bool) -> Result<(), ProgramFault> {
-    let sheet = Sheet::read(rt.alloc(), bytes)?;
-    if whole {
-        print_answers(rt, &sheet)?;
-    } else {
-        print_counts(rt, &sheet)?;
-    }
-    Ok(())
+// Reads a document of some form and prints what is asked of it.
+fn run<F: RecordForm, P: Fn(&HostRuntime, &Document<F>) -> io::Result<()>>(
+    rt: &HostRuntime,
+    bytes: &[u8],
+    print: P,
+) -> Result<(), ProgramFault>
+    requires { P.IsAlwaysCallable print }
+{
+    let document = Document::<F>::read(rt.alloc(), bytes)?;
+    Ok(print(rt, &document)?)
 }
 
 fn run_case(rt: &HostRuntime, line: &str) -> Result<(), ProgramFault> {
@@ -42,10 +34,10 @@ fn run_case(rt: &HostRuntime, line: &str) -> Result<(), ProgramFault> {
     };
     let bytes = case_bytes(rt.alloc(), digits)?;
     match form {
-        "paper" => run_paper(rt, bytes.as_slice(), false),
-        "sheet" => run_sheet(rt, bytes.as_slice(), false),
-        "answers of paper" => run_paper(rt, bytes.as_slice(), true),
-        "answers of sheet" => run_sheet(rt, bytes.as_slice(), true),
+        "paper" => run::<PaperForm, _>(rt, bytes.as_slice(), print_counts),
+        "sheet" => run::<SheetForm, _>(rt, bytes.as_slice(), print_counts),
+        "answers of paper" => run::<PaperForm, _>(rt, bytes.as_slice(), print_answers),
+        "answers of sheet" => run::<SheetForm, _>(rt, bytes.as_slice(), print_answers),
         _ => Err(ProgramFault::Unreadable),
     }
 }

@@ -1,93 +1,117 @@
 // What a key holds, as text: `facts 0,1,6 orderings 0:1:1,1:6:2 state 0,0,0`, a minus sign for none.
+ghost use Rattle.std.specs.Prelude.{None};
+
 use key::keys::Key;
 use rules::calls::Kind;
 use std::alloc::{AllocError, Global};
+use std::fmt;
 use task::facts::count_facts;
 use task::task_source::TaskSource;
 
-// Adds one more item to a list with commas.
-fn add_item(list: &mut String, item: &str) -> Result<(), AllocError> {
-    if !list.is_empty() {
-        list.push_str(",")?;
-    }
-    list.push_str(item)
+// Items with commas between them, printed as a minus sign where there are none.
+#[derive(Drop)]
+struct Items {
+    text: String,
 }
 
-// A list, or a minus sign for none.
-fn or_none(heap: Global, list: String) -> Result<String, AllocError> {
-    if list.is_empty() {
-        return String::from_str(heap, "-");
-    }
-    Ok(list)
-}
-
-fn facts_text(heap: Global, key: &Key) -> Result<String, AllocError> {
-    let mut list = String::new(heap);
-    for number in 0..count_facts(key.source()) {
-        if key.holds(number) {
-            let item = format!(in heap; "{number}")?;
-            add_item(&mut list, item.as_str())?;
+impl Items {
+    fn new(heap: Global) -> Items {
+        Items {
+            text: String::new(heap),
         }
     }
-    or_none(heap, list)
+
+    // Adds one more item.
+    fn push<T: fmt::Display>(&mut self, item: &T) -> Result<(), AllocError> {
+        if !self.text.is_empty() {
+            self.text.push_str(",")?;
+        }
+        write!(self.text, "{item}")
+    }
 }
 
-// Adds an ordering to a list, where the key has it.
-fn add_ordering(
-    heap: Global,
-    key: &Key,
-    list: &mut String,
+impl fmt::Display for Items {
+    ghost output = { λ _. None };
+
+    fn fmt<W: fmt::Write>(&self, f: &mut fmt::Formatter<W>) -> fmt::Result {
+        if self.text.is_empty() {
+            f.write_str("-")
+        } else {
+            f.write_str(self.text.as_str())
+        }
+    }
+}
+
+// An ordering that a key may have, printed with the number of its kind.
+#[derive(Clone, Copy)]
+struct Ordering {
+    earlier: usize,
+    later: usize,
     kind: Kind,
+}
+
+impl fmt::Display for Ordering {
+    ghost output = { λ _. None };
+
+    fn fmt<W: fmt::Write>(&self, f: &mut fmt::Formatter<W>) -> fmt::Result {
+        let number = match self.kind {
+            Kind::Greedy => 1u8,
+            Kind::Necessary => 2u8,
+        };
+        write!(f, "{}:{}:{number}", self.earlier, self.later)
+    }
+}
+
+fn held_facts(heap: Global, key: &Key) -> Result<Items, AllocError> {
+    let mut items = Items::new(heap);
+    for number in (0..count_facts(key.source())).filter(|number| key.holds(*number)) {
+        items.push(&number)?;
+    }
+    Ok(items)
+}
+
+// Adds the orderings of two facts, greedy-necessary and then necessary.
+fn push_kinds(
+    key: &Key,
+    items: &mut Items,
     earlier: usize,
     later: usize,
 ) -> Result<(), AllocError> {
-    if !key.is_ordered(kind, earlier, later) {
-        return Ok(());
-    }
-    let number = match kind {
-        Kind::Greedy => 1u8,
-        Kind::Necessary => 2u8,
-    };
-    let item = format!(in heap; "{earlier}:{later}:{number}")?;
-    add_item(list, item.as_str())
-}
-
-// Adds the orderings of one earlier fact.
-fn add_orderings(
-    heap: Global,
-    key: &Key,
-    list: &mut String,
-    earlier: usize,
-) -> Result<(), AllocError> {
-    for later in 0..count_facts(key.source()) {
-        add_ordering(heap, key, list, Kind::Greedy, earlier, later)?;
-        add_ordering(heap, key, list, Kind::Necessary, earlier, later)?;
+    for kind in [Kind::Greedy, Kind::Necessary] {
+        if key.is_ordered(kind, earlier, later) {
+            items.push(&Ordering {
+                earlier,
+                later,
+                kind,
+            })?;
+        }
     }
     Ok(())
 }
 
-fn orderings_text(heap: Global, key: &Key) -> Result<String, AllocError> {
-    let mut list = String::new(heap);
-    for earlier in 0..count_facts(key.source()) {
-        add_orderings(heap, key, &mut list, earlier)?;
+fn held_orderings(heap: Global, key: &Key) -> Result<Items, AllocError> {
+    let mut items = Items::new(heap);
+    let facts = count_facts(key.source());
+    for (earlier, later) in (0..facts).flat_map(|earlier| (0..facts).map(move |later| (
+        earlier, later,
+    ))) {
+        push_kinds(key, &mut items, earlier, later)?;
     }
-    or_none(heap, list)
+    Ok(items)
 }
 
-fn state_text(heap: Global, key: &Key) -> Result<String, AllocError> {
-    let mut list = String::new(heap);
-    for variable in 0..key.source().variables() {
-        let value = key.value(variable);
-        let item = format!(in heap; "{value}")?;
-        add_item(&mut list, item.as_str())?;
+fn state_reached(heap: Global, key: &Key) -> Result<Items, AllocError> {
+    let mut items = Items::new(heap);
+    for value in (0..key.source().variables()).map(|variable| key.value(variable)) {
+        items.push(&value)?;
     }
-    or_none(heap, list)
+    Ok(items)
 }
 
 // The facts and orderings that the key holds, and the state that the sitting has reached.
 pub fn held_text(heap: Global, key: &Key) -> Result<String, AllocError> {
-    let facts = facts_text(heap, key)?;
-    let orderings = orderings_text(heap, key)?;
-    let state = state_text(heap, key)?;
+    let facts = held_facts(heap, key)?;
+    let orderings = held_orderings(heap, key)?;
+    let state = state_reached(heap, key)?;
     format!(in heap; "facts {facts} orderings {orderings} state {state}")
 }

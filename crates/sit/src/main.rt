@@ -19,18 +19,12 @@ use std::{env, io};
 fn paper_path(rt: &HostRuntime) -> Result<String, ProgramFault> {
     let mut words = env::args(rt)?;
     let _program = words.next();
-    match words.next() {
-        Some(path) => Ok(path),
-        None => Err(ProgramFault::Unreadable),
-    }
+    words.next().ok_or(ProgramFault::Unreadable)
 }
 
 // The request of a line; what is no text asks for nothing.
 fn request_of(line: &[u8]) -> Option<Request> {
-    match std::str::from_utf8(line) {
-        Ok(text) => parse_request(text),
-        Err(_) => None,
-    }
+    std::str::from_utf8(line).ok().and_then(parse_request)
 }
 
 // Prints the answer to a line.
@@ -48,9 +42,8 @@ fn answer_line(rt: &HostRuntime, key: &mut Key, number: u64, line: &[u8]) -> io:
 
 // Answers each line of standard input.
 fn follow(rt: &HostRuntime, key: &mut Key) -> io::Result<()> {
-    let mut number: u64 = 0;
-    for line in BufReader::new(rt.alloc(), rt.stdin())?.split(rt.alloc(), b'\n') {
-        number = number.saturating_add(1);
+    let lines = BufReader::new(rt.alloc(), rt.stdin())?.split(rt.alloc(), b'\n');
+    for (number, line) in (1u64..).zip(lines) {
         let bytes = line?;
         answer_line(rt, key, number, bytes.as_slice())?;
     }

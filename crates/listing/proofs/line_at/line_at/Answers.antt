@@ -1,28 +1,31 @@
-use Rattle.std.proofs.Common.{refl, arith}
-use Rattle.listing.proofs.Lining.{key_lawful, line_of_fact, line_of_pair}
+use Rattle.std.proofs.Common.{◌≡◌, ℕ, ◌-◌, rules, refl, ap, ◌∙◌, subst, arith, Ok, Err}
+use Rattle.task.specs.Task.{Task, facts}
+use Rattle.reach.specs.Built.{LevelsBuilt}
+use Rattle.rules.specs.Machine.{Count}
+use Rattle.key.specs.Keys.{task_of}
+use Rattle.listing.specs.Listing.{HeldAt, shown_kind}
+use Rattle.listing.proofs.Lining.{line_of_fact, line_of_pair, pairs_sought, says_any, any_kind}
 use Rattle.listing.proofs.line_at.line_at.Goals as goal
 
-pub fact_line-requires : goal.fact_line-requires
-fact_line-requires c = c.in-Found.ensures.within
+pub returns-in-Ok : goal.returns-in-Ok
+returns-in-Ok c m s =
+    let found = c.in-Ok.ensures.sought m.held (λ n b q. search rules) in
+    line_of_fact c.fact_line.result c.in-Ok.fact c.args.number c.fact_line.ensures.number found (c.fact_line.ensures.shown (subst (λ (t : Task). LevelsBuilt t c.of.result.table) c.source-source.ensures c.of.ensures.levels))
 
-pub returns-in-Found : goal.returns-in-Found
-returns-in-Found c m s = line_of_fact _ c.in-Found.fact c.args.number c.fact_line.ensures.number (c.in-Found.ensures.sought m s) c.fact_line.ensures.shown
+pub returns-in-Ok-find_passing : goal.returns-in-Ok-find_passing
+returns-in-Ok-find_passing c m s =
+    let held = c.in-Err.ensures.sought m.held (λ n b q. search rules) in
+    let found = c.in-Ok-find_passing.ensures.sought (any_kind m) (λ n b q. search (rules, says_any)) in
+    let limit : c.count_facts.result ≡ facts (task_of c.args.key.now) = c.count_facts.ensures.value ∙ ap facts c.source-source.ensures in
+    line_of_pair c.line.result c.in-Ok-find_passing.place c.in-Err.held c.args.number c.in-Ok-find_passing.ensures.within
+    (c.line.ensures.earlier ∙ c.at.ensures.earlier) (c.line.ensures.later ∙ c.at.ensures.later) (c.line.ensures.kind m s ∙ (λ i. shown_kind m (c.at.ensures.earlier i) (c.at.ensures.later i)))
+    (pairs_sought m (c.args.number - c.in-Err.held) (Ok c.in-Ok-find_passing.place) found) (subst (λ (n : ℕ). Count (HeldAt m) n c.in-Err.held) limit held) c.in-Err.ensures.within.1
 
-pub overflow_sub-number : goal.overflow_sub-number
-overflow_sub-number c = c.in-Only.ensures.within.1
-
-pub order_line-requires : goal.order_line-requires
-order_line-requires c = c.in-Found-find_pair.ensures.within
-
-pub overflow_add-result : goal.overflow_add-result
-overflow_add-result c = omega (arith, c.in-Only.ensures.within.0, c.in-Only-find_pair.ensures.within.0, (key_lawful c.args.key.now).few_facts)
-
-pub returns-in-Found-find_pair : goal.returns-in-Found-find_pair
-returns-in-Found-find_pair c m s =
-    line_of_pair c.order_line.result c.in-Found-find_pair.place c.in-Only.held c.args.number c.in-Found-find_pair.ensures.within
-    c.order_line.ensures.earlier c.order_line.ensures.later (c.order_line.ensures.kind m s) (c.in-Found-find_pair.ensures.sought m s)
-    (c.in-Only.ensures.sought m s) c.in-Only.ensures.within.1
-
-pub returns-in-Only-find_pair : goal.returns-in-Only-find_pair
-returns-in-Only-find_pair c m s =
-    ((c.in-Only.held, (c.in-Only-find_pair.ordered, c.in-Only.ensures.sought m s, c.in-Only-find_pair.ensures.sought m s, refl)), omega (arith, c.in-Only.ensures.within.1, c.in-Only-find_pair.ensures.within.1))
+pub returns-in-Err-find_passing : goal.returns-in-Err-find_passing
+returns-in-Err-find_passing c m s =
+    let held = c.in-Err.ensures.sought m.held (λ n b q. search rules) in
+    let ordered = c.in-Err-find_passing.ensures.sought (any_kind m) (λ n b q. search (rules, says_any)) in
+    let limit : c.count_facts.result ≡ facts (task_of c.args.key.now) = c.count_facts.ensures.value ∙ ap facts c.source-source.ensures in (
+      (c.in-Err.held, (c.in-Err-find_passing.ordered, subst (λ (n : ℕ). Count (HeldAt m) n c.in-Err.held) limit held, pairs_sought m (c.args.number - c.in-Err.held) (Err c.in-Err-find_passing.ordered) ordered, refl)),
+      omega (arith, c.in-Err.ensures.within.1, c.in-Err-find_passing.ensures.within.1),
+    )

@@ -1,6 +1,7 @@
-use Rattle.std.proofs.Common.{refl, arith}
-use Rattle.lines.specs.Text.{line_text}
-use Rattle.listing.proofs.Lining.{front_fits}
+use Rattle.std.proofs.Common.{◌≡◌, rules, refl, Ok, Err, MatchResult}
+use Rattle.std.proofs.lemmas.Result.{err_from_is_err_and}
+use Rattle.listing.proofs.Lining.{no_such_line}
+use Rattle.listing.specs.declared.refusal.ListingRefusal.TheVariants.{NoSuchLine}
 use Rattle.listing.proofs.list.list_line.Goals as goal
 
 pub returns-in-Some : goal.returns-in-Some
@@ -9,19 +10,11 @@ returns-in-Some c = record { fits = tt; listed = λ m s. (c.in-Some.ensures m s,
 pub returns-then-buffer-lt32 : goal.returns-then-buffer-lt32
 returns-then-buffer-lt32 c = record { fits = tt; listed = λ m s. ((c.in_default.ensures m s, c.if-buffer-lt32.true, refl), refl) }
 
-pub unreachable-requires : goal.unreachable-requires
-unreachable-requires c = omega (arith, c.in_default-write_line.ensures.0, c.if-buffer-lt32.false)
-
-pub returns-in-Some-write_line : goal.returns-in-Some-write_line
-returns-in-Some-write_line c =
-    let front = c.in-Some-write_line.ensures in
-    record {
-      fits = front_fits c.args.buffer.now (line_text c.in-Ok.line) c.write_line.new.buffer c.in-Some-write_line.written front.1 front.2;
-      listed = λ m s. (c.in_default.ensures m s, (c.in-Ok.line, c.in-Ok.ensures m s, front));
-    }
-
-pub returns-in-Err : goal.returns-in-Err
-returns-in-Err c = record {
-  fits = tt;
-  listed = λ m s. let h = c.in-Err.ensures m s in ((c.in_default.ensures m s, c.if-buffer-lt32.false, h.0, h.1), refl);
-}
+pub returns-in_err-line : goal.returns-in_err-line
+returns-in_err-line c =
+    let p = err_from_is_err_and c.from_residual.result c.from_residual.ensures.1 in
+    let told : MatchResult c.line_at.result (λ x. c.map_err.result ≡ Ok x) (λ n. c.map_err.result ≡ Err (NoSuchLine n)) = search rules in
+    rw (p.1, p.2) (record {
+      fits = tt;
+      listed = λ m s. (no_such_line _ m c.args.number _ c.line_at.result c.map_err.result _ (c.in_default.ensures m s) c.if-buffer-lt32.false (c.line_at.ensures m s) told c.in_err-line.was, refl);
+    })
