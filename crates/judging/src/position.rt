@@ -34,16 +34,21 @@ impl Position {
         self.values.get(variable).copied().unwrap_or(0)
     }
 
+    // The value of a variable after an action.
+    fn value_after<S: TaskSource>(&self, source: &S, action: usize, variable: usize) -> usize
+        ensures { result ≡ after (S.task source.now) (state_of self.now) action variable }
+    {
+        source
+            .effect(action, variable)
+            .unwrap_or(self.value(variable))
+    }
+
     // Puts the effects of an action there.
     pub fn advance<S: TaskSource>(&mut self, source: &S, action: usize)
         ensures { (v : ℕ) → state_of self.new v ≡ after (S.task source.now) (state_of self.old) action v }
     {
         *self = Position {
-            values: array::from_fn(|variable| {
-                source
-                    .effect(action, variable)
-                    .unwrap_or(self.value(variable))
-            }),
+            values: array::from_fn(|variable| self.value_after(source, action, variable)),
         };
     }
 

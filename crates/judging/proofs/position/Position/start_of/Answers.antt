@@ -1,4 +1,4 @@
-use Rattle.std.proofs.Common.{sym, ◌∙◌, inl, inr, zero-le, arith, rules}
+use Rattle.std.proofs.Common.{◌≤◌, sym, ◌∙◌, subst, inl, inr, zero-le, le_trans, rules}
 use Rattle.std.proofs.lemmas.List.{get_or_past}
 use Rattle.std.proofs.lemmas.Bool.{cases_lt}
 use Rattle.judging.proofs.Chains.{made_at}
@@ -10,5 +10,5 @@ returns g c v =
     let lawful = g.S.TaskSource.lawful c.args.source.now in
     elim (cases_lt v 64) [
       | inl l ↦ made_at t.start _ _ 0 64 c.from_fn.ensures.items.each (λ x y q k. search rules) v zero-le l
-      | inr past ↦ get_or_past _ v 0 (omega (arith, c.from_fn.ensures.items.long)) ∙ sym (lawful.start_out v (omega (arith, lawful.few_vars)))
+      | inr past ↦ get_or_past _ v 0 (subst (λ n. n ≤ v) (sym c.from_fn.ensures.items.long) past) ∙ sym (lawful.start_out v (le_trans lawful.few_vars past))
     ]
