@@ -54,10 +54,7 @@ impl fmt::Display for Ordering {
     ghost output = { λ _. None };
 
     fn fmt<W: fmt::Write>(&self, f: &mut fmt::Formatter<W>) -> fmt::Result {
-        let number = match self.kind {
-            Kind::Greedy => 1u8,
-            Kind::Necessary => 2u8,
-        };
+        let number = usize::from(self.kind);
         write!(f, "{}:{}:{number}", self.earlier, self.later)
     }
 }
