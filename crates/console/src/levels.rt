@@ -17,7 +17,7 @@ use std::alloc::Global;
 use std::io;
 
 // The account of the document that the bytes are, of any form.
-pub fn levels_of<F: RecordForm>(heap: Global, bytes: &[u8]) -> Result<Account, ReadFault>
+fn levels_of<F: RecordForm>(heap: Global, bytes: &[u8]) -> Result<Account, ReadFault>
     ensures { IfOk result (λ a. (t : Task) × Accepted (fault_of F.RecordForm.rules) (task_by F.RecordForm.rules) bytes.now t × AccountOf t a) }
 {
     let document = Document::<F>::read(heap, bytes)?;

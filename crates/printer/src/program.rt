@@ -18,7 +18,7 @@ use std::alloc::Global;
 use std::io;
 
 // The marked key of the document that the bytes are, of any form.
-pub fn key_of<F: RecordForm>(heap: Global, bytes: &[u8]) -> Result<Key, ReadFault>
+fn key_of<F: RecordForm>(heap: Global, bytes: &[u8]) -> Result<Key, ReadFault>
     ensures { IfOk result (λ k. (t : Task) × Accepted (fault_of F.RecordForm.rules) (task_by F.RecordForm.rules) bytes.now t × MarkedKey t k) }
 {
     let document = Document::<F>::read(heap, bytes)?;

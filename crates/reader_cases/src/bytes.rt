@@ -22,7 +22,7 @@ fn pair_byte(pair: &[u8]) -> Result<u8, ProgramFault> {
 // Adds the bytes that a word of digits writes.
 fn add_digits(bytes: &mut Vec<u8>, digits: &[u8]) -> Result<(), ProgramFault> {
     for pair in digits.chunks(2) {
-        bytes.push(pair_byte(pair)?)?;
+        bytes.extend_from_slice(&[pair_byte(pair)?])?;
     }
     Ok(())
 }

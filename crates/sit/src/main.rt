@@ -17,9 +17,7 @@ use std::{env, io};
 
 // The file that is named on the command line; without a name there is no input.
 fn paper_path(rt: &HostRuntime) -> Result<String, ProgramFault> {
-    let mut words = env::args(rt)?;
-    let _program = words.next();
-    words.next().ok_or(ProgramFault::Unreadable)
+    env::args(rt)?.nth(1).ok_or(ProgramFault::Unreadable)
 }
 
 // The request of a line; what is no text asks for nothing.
@@ -60,8 +58,5 @@ fn sit(rt: &HostRuntime) -> Result<(), ProgramFault> {
 }
 
 fn main(rt: HostRuntime) -> io::Result<()> {
-    match sit(&rt) {
-        Ok(()) => Ok(()),
-        Err(fault) => print_fault(&rt, &fault),
-    }
+    sit(&rt).or_else(|fault| print_fault(&rt, &fault))
 }

@@ -14,7 +14,7 @@ ghost use Rattle.rules.specs.declared.calls.Refusal.TheVariants.{GoalOutOfReach}
 
 use account::account::Account;
 use account::building::account_of;
-use key::replay::{Transcript, replay};
+use key::replay::replay;
 use paper::paper::Paper;
 use records::fault::ReadFault;
 use rules::calls::{Answer, Call};
@@ -108,8 +108,7 @@ fn run_calls(heap: Global, bytes: &[u8], calls: &[Call]) -> Result<Vec<Answer>, 
 {
     let paper = Paper::read(heap, bytes)?;
     let transcript = replay(heap, &paper, calls)?;
-    let Transcript { key: _key, answers } = transcript;
-    Ok(answers)
+    Ok(transcript.answers)
 }
 
 // The answers to the calls that make the printed key of paper A, and then to more.
