@@ -1,4 +1,5 @@
-// The key of a document on standard input.
+// The key of a document on standard input. In shape like the levels of `console`: one function for both would take what is made and how
+// it is printed as closures, and could not promise what is made.
 ghost use Rattle.driver.specs.Marking.{MarkedKey};
 ghost use Rattle.forms.specs.Forms.{fault_of, task_by};
 ghost use Rattle.forms.specs.Reading.{Accepted};

@@ -2,7 +2,7 @@
 use console::fault::ProgramFault;
 use std::alloc::Global;
 
-// The number of a hexadecimal digit.
+// The number of a hexadecimal digit; `to_digit` would take capitals too.
 fn digit_number(digit: u8) -> Result<u8, ProgramFault> {
     match digit {
         b'0'..=b'9' => Ok(digit - b'0'),

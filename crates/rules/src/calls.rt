@@ -7,7 +7,8 @@ pub enum Kind {
     Necessary,
 }
 
-// Propose a fact; order, by the number of a kind, an earlier and a later fact; begin anew; step by an action; report.
+// Propose a fact; order, by the number of a kind, an earlier and a later fact; begin anew; step by an action; report. The kind stands as
+// the caller wrote it, since the rules answer a number of no kind too.
 #[derive(Clone, Copy, Debug, PartialEq, Eq)]
 pub enum Call {
     Propose(usize),

@@ -1,4 +1,5 @@
-// The kind with a number, the number of a kind, and results of the single calls as answers.
+// The kind with a number, the number of a kind, and results of the single calls as answers: three blocks of one shape, since an own macro
+// may write no `impl`.
 use crate::calls::{Answer, Kind, Mark, Refusal, Standing};
 
 impl TryFrom<usize> for Kind {
