@@ -24,6 +24,28 @@ set_here xs i k x d l e = ap (λ j. get_or (set xs i x) j d) e ∙ get_or-set_sa
 pub set_there : {A : Type 0} (xs : List A) (i k : ℕ) (x d : A) → (k ≡ i → ⊥) → get_or (set xs i x) k d ≡ get_or xs k d
 set_there xs i k x d n = let ne : k ≢ i = n in rw get_or-set_other
 
+-- the values below i are new, those from i on old
+abbrev pub Split : (ℕ → ℕ) → (ℕ → ℕ) → ℕ → List ℕ → Type 0
+Split new old i xs = ((k : ℕ) → k < i → get_or xs k 0 ≡ new k) × ((k : ℕ) → i ≤ k → get_or xs k 0 ≡ old k)
+
+pub split_write : (new old : ℕ → ℕ) (i x : ℕ) (xs : List ℕ) → i < length xs → new i ≡ x → Split new old i xs → Split new old (i + 1) (set xs i x)
+split_write new old i x xs l e (low, high) = (
+  λ k h. elim (cases_eq k i) [
+    | inl same ↦ set_here xs i k x 0 l same ∙ sym e ∙ ap new (sym same)
+    | inr other ↦ set_there xs i k x 0 other ∙ low k (omega arith)
+  ],
+  λ k h. set_there xs i k x 0 (omega arith) ∙ high k (omega arith),
+)
+
+pub split_keep : (new old : ℕ → ℕ) (i : ℕ) (xs : List ℕ) → new i ≡ old i → Split new old i xs → Split new old (i + 1) xs
+split_keep new old i xs e (low, high) = (
+  λ k h. elim (cases_eq k i) [
+    | inl same ↦ high k (omega arith) ∙ ap old same ∙ sym e ∙ ap new (sym same)
+    | inr other ↦ low k (omega arith)
+  ],
+  λ k h. high k (omega arith),
+)
+
 -- one variable more is marked
 module _ (t : Task) (before marks : FactSet) (s : State) (i off : ℕ) (inside : i < t.vars) (at : off ≡ offset t.size i) (was : Marked t before s i marks) where
   -- the fact of the variable that holds

@@ -8,7 +8,6 @@ ghost use Rattle.task.specs.Paths.{after, restarted};
 
 use crate::fact_set::FactSet;
 use crate::measures::goal_level;
-use std::array;
 use task::restarted::Restarted;
 use task::task_source::TaskSource;
 
@@ -22,9 +21,11 @@ impl Position {
     pub fn start_of<S: TaskSource>(source: &S) -> Position
         ensures { (v : ℕ) → state_of result v ≡ (S.task source.now).start v }
     {
-        Position {
-            values: array::from_fn(|variable| source.start(variable)),
+        let mut values = [0; 64];
+        for (variable, value) in values.iter_mut().enumerate() {
+            *value = source.start(variable);
         }
+        Position { values }
     }
 
     // The value of a variable, 0 past the last one.
@@ -34,22 +35,15 @@ impl Position {
         self.values.get(variable).copied().unwrap_or(0)
     }
 
-    // The value of a variable after an action.
-    fn value_after<S: TaskSource>(&self, source: &S, action: usize, variable: usize) -> usize
-        ensures { result ≡ after (S.task source.now) (state_of self.now) action variable }
-    {
-        source
-            .effect(action, variable)
-            .unwrap_or(self.value(variable))
-    }
-
     // Puts the effects of an action there.
     pub fn advance<S: TaskSource>(&mut self, source: &S, action: usize)
         ensures { (v : ℕ) → state_of self.new v ≡ after (S.task source.now) (state_of self.old) action v }
     {
-        *self = Position {
-            values: array::from_fn(|variable| self.value_after(source, action, variable)),
-        };
+        for variable in 0..source.variables() {
+            if let Some(value) = source.effect(action, variable) {
+                self.values[variable] = value;
+            }
+        }
     }
 
     // Puts the facts that hold there into a set.
