@@ -1,8 +1,9 @@
 // The levels of a document on standard input.
 ghost use Rattle.account.specs.Accounts.{AccountOf};
 ghost use Rattle.forms.specs.Forms.{fault_of, task_by};
-ghost use Rattle.forms.specs.Reading.{Accepted};
-ghost use Rattle.std.specs.Prelude.{IfOk};
+ghost use Rattle.forms.specs.Reading.{Accepted, Refused};
+ghost use Rattle.records.specs.declared.fault.ReadFault.TheVariants.{Memory};
+ghost use Rattle.std.specs.Prelude.{◌≡◌, ◌⊎◌, IfErr, IfOk};
 ghost use Rattle.task.specs.Task.{Task};
 
 use crate::fault::ProgramFault;
@@ -18,7 +19,8 @@ use std::io;
 
 // The account of the document that the bytes are, of any form.
 fn levels_of<F: RecordForm>(heap: Global, bytes: &[u8]) -> Result<Account, ReadFault>
-    ensures { IfOk result (λ a. (t : Task) × Accepted (fault_of F.RecordForm.rules) (task_by F.RecordForm.rules) bytes.now t × AccountOf t a) }
+    ensures made { IfOk result (λ a. (t : Task) × Accepted (fault_of F.RecordForm.rules) (task_by F.RecordForm.rules) bytes.now t × AccountOf t a) }
+    ensures refused { IfErr result (λ e. Refused (fault_of F.RecordForm.rules) bytes.now e ⊎ (e ≡ Memory)) }
 {
     let document = Document::<F>::read(heap, bytes)?;
     Ok(account_of(heap, &document)?)

@@ -2,8 +2,9 @@
 // it is printed as closures, and could not promise what is made.
 ghost use Rattle.driver.specs.Marking.{MarkedKey};
 ghost use Rattle.forms.specs.Forms.{fault_of, task_by};
-ghost use Rattle.forms.specs.Reading.{Accepted};
-ghost use Rattle.std.specs.Prelude.{IfOk};
+ghost use Rattle.forms.specs.Reading.{Accepted, Refused};
+ghost use Rattle.records.specs.declared.fault.ReadFault.TheVariants.{Memory};
+ghost use Rattle.std.specs.Prelude.{◌≡◌, ◌⊎◌, IfErr, IfOk};
 ghost use Rattle.task.specs.Task.{Task};
 
 use crate::print::print_key;
@@ -20,7 +21,8 @@ use std::io;
 
 // The marked key of the document that the bytes are, of any form.
 fn key_of<F: RecordForm>(heap: Global, bytes: &[u8]) -> Result<Key, ReadFault>
-    ensures { IfOk result (λ k. (t : Task) × Accepted (fault_of F.RecordForm.rules) (task_by F.RecordForm.rules) bytes.now t × MarkedKey t k) }
+    ensures made { IfOk result (λ k. (t : Task) × Accepted (fault_of F.RecordForm.rules) (task_by F.RecordForm.rules) bytes.now t × MarkedKey t k) }
+    ensures refused { IfErr result (λ e. Refused (fault_of F.RecordForm.rules) bytes.now e ⊎ (e ≡ Memory)) }
 {
     let document = Document::<F>::read(heap, bytes)?;
     Ok(marked_key(heap, &document)?)

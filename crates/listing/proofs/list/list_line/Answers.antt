@@ -4,12 +4,6 @@ use Rattle.listing.proofs.Lining.{no_such_line}
 use Rattle.listing.specs.declared.refusal.ListingRefusal.TheVariants.{NoSuchLine}
 use Rattle.listing.proofs.list.list_line.Goals as goal
 
-pub returns-in-Some : goal.returns-in-Some
-returns-in-Some c = record { fits = tt; listed = λ m s. (c.in-Some.ensures m s, refl) }
-
-pub returns-then-buffer-lt32 : goal.returns-then-buffer-lt32
-returns-then-buffer-lt32 c = record { fits = tt; listed = λ m s. ((c.in_default.ensures m s, c.if-buffer-lt32.true, refl), refl) }
-
 pub returns-in_err-line : goal.returns-in_err-line
 returns-in_err-line c =
     let p = err_from_is_err_and c.from_residual.result c.from_residual.ensures.1 in
