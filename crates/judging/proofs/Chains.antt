@@ -1,30 +1,9 @@
 -- What chains over the numbers below a limit give.
-use Rattle.std.proofs.Common.{◌≡◌, ℕ, zero, suc, ◌+◌, ◌<◌, ◌≤◌, Bool, cond, List, ◌∷◌, length, get_or, Some, None, Decides, Option, unwrap_or, sym, refl, ap, ◌∙◌, subst, inl, inr, arith, MatchOption, ◌⊎◌, true, false}
-use Rattle.std.proofs.lemmas.Bool.{cases_eq, cases_Bool, both_ways, false≢true}
-use Rattle.std.specs.Array.{IsFromFnResultFrom}
-use Rattle.std.specs.Fn.{Called}
+use Rattle.std.proofs.Common.{◌≡◌, ℕ, zero, suc, ◌+◌, ◌<◌, ◌≤◌, Bool, cond, ◌∷◌, length, Some, None, Decides, Option, sym, refl, subst, inl, inr, arith, MatchOption, ◌⊎◌, true, false}
+use Rattle.std.proofs.lemmas.Bool.{cases_Bool, both_ways, false≢true}
 use Rattle.std.specs.List.{filter, range_with_len}
-use denote.Param.Members.{Mut}
-use Rattle.task.specs.Paths.{given_or}
 use Rattle.rules.specs.Machine.{Count, Count.none, Lowest}
 use Rattle.judging.proofs.Sums.{count_hit, count_miss}
-
--- an array made by calls at each number
-pub made_at : {F : Type 0} {g : Mut F (ℕ × Unit {0}) ℕ} (h : ℕ → ℕ) (f : F) (ys : List ℕ) (i n : ℕ) → IsFromFnResultFrom g f ys i n
-    → ((x y : ℕ) (q : F) → Called g f (x, tt) y q → (q ≡ f) × (y ≡ h x))
-    → (k : ℕ) → i ≤ k → k < i + n → get_or ys k 0 ≡ h k
-made_at h f ys i zero made gives k low high = let z : ⊥ = omega arith in absurd z
-made_at {g = g} h f ys i (suc n) (q, y, at, called, rest) gives k low high =
-    let p = gives i y q called in
-    elim (cases_eq k i) [
-      | inl e ↦ ap (λ j. get_or ys j 0) e ∙ at.1 0 ∙ p.1 ∙ ap h (sym e)
-      | inr ne ↦ made_at h f ys (i + 1) n (subst (λ r. IsFromFnResultFrom g r ys (i + 1) n) p.0 rest) gives k (omega arith) (omega arith)
-    ]
-
--- what an effect leaves
-pub given_as : (o : Option ℕ) (old : ℕ) → unwrap_or o old ≡ given_or o old
-given_as None old = refl
-given_as (Some x) old = refl
 
 -- the test that a decision makes
 abbrev pub told : {P : Type 0} → P ⊎ (P → ⊥) → Bool
