@@ -10,7 +10,7 @@ use std::alloc::{AllocError, Global};
 use task::facts::{count_facts, fact_at};
 use task::task_source::TaskSource;
 
-// The facts upwards, each with its level.
+// The facts upwards, each with its level. A `for`: in a chain it was not proved that the closure's number is one of a fact.
 fn list_levels<S: TaskSource>(
     heap: Global,
     source: &S,

@@ -37,6 +37,7 @@ impl<F: RecordForm> Document<F> {
     }
 }
 
+// Passed on one by one, as in the layers of `task`: Rattle has no delegation, and an own macro may write no `impl`.
 impl<F> TaskSource for Document<F> {
     ghost task = { λ s. task_of (lists_of s.table) };
 

@@ -11,7 +11,7 @@ use task::barred::Barred;
 use task::facts::Fact;
 use task::task_source::TaskSource;
 
-// Whether a table of the reach has all conditions of an action.
+// Whether a table of the reach has all conditions of an action. A `for`: with `all` the bound of the sum in the closure was not proved.
 fn has_conditions<S: TaskSource>(source: &S, reach: &ReachTable, action: usize) -> bool
     ensures { Decides result (AllIn (S.task source.now) reach.now action) }
 {

@@ -8,6 +8,14 @@ pub struct FactSet {
     marks: [bool; 256],
 }
 
+impl From<[bool; 256]> for FactSet {
+    ghost from_gives = { λ marks s. s.marks ≡ marks };
+
+    fn from(given: [bool; 256]) -> FactSet {
+        FactSet { marks: given }
+    }
+}
+
 impl FactSet {
     // The set of no facts.
     pub fn empty() -> FactSet

@@ -10,8 +10,8 @@ use task::barred::Barred;
 use task::facts::Fact;
 use task::task_source::TaskSource;
 
-// The lowest number of a goal fact out of a task's reach, by the table of that reach: `None` where the goal is in reach.
-pub fn missed_goal<S: TaskSource>(source: &S, reach: &ReachTable) -> Option<usize>
+// The lowest number of a goal fact that a table of the reach lacks. A `for`: in a chain the closure would owe the bound of its sum.
+fn first_missed<S: TaskSource>(source: &S, reach: &ReachTable) -> Option<usize>
     ensures { ReachBuilt (S.task source.now) reach.now.table → MatchOption result (GoalInReach (S.task source.now)) (Lowest (MissedGoal (S.task source.now))) }
 {
     for variable in 0..source.variables() {
@@ -25,6 +25,13 @@ pub fn missed_goal<S: TaskSource>(source: &S, reach: &ReachTable) -> Option<usiz
     None
 }
 
+// The lowest number of a goal fact out of reach: `None` where the goal is in reach.
+pub fn missed_goal<S: TaskSource>(source: &S) -> Option<usize>
+    ensures { MatchOption result (GoalInReach (S.task source.now)) (Lowest (MissedGoal (S.task source.now))) }
+{
+    first_missed(source, &ReachTable::of(source))
+}
+
 // Whether no relaxed sequence reaches the goal without a fact.
 pub fn is_landmark<S: TaskSource>(source: &S, fact: Fact) -> bool
     ensures { fact.variable < (S.task source.now).vars → Decides result (Landmark (S.task source.now) fact) }
@@ -32,6 +39,5 @@ pub fn is_landmark<S: TaskSource>(source: &S, fact: Fact) -> bool
     if source.start(fact.variable) == fact.value {
         return true;
     }
-    let barred = Barred::new(source, fact);
-    missed_goal(&barred, &ReachTable::of(&barred)).is_some()
+    missed_goal(&Barred::new(source, fact)).is_some()
 }

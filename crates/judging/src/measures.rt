@@ -17,7 +17,7 @@ fn count_effects<S: TaskSource>(source: &S, action: usize) -> u16
         .count() as u16
 }
 
-// The most effects of a present action.
+// The most effects of a present action. A `for`: of a chain with `max` the bound was proved, but not `Width`.
 pub fn widest<S: TaskSource>(source: &S) -> u16
     ensures width { Width (S.task source.now) result }
     ensures bound { result ≤ 64 }
@@ -31,7 +31,7 @@ pub fn widest<S: TaskSource>(source: &S) -> u16
     width
 }
 
-// The greatest level of a goal fact, 0 without goals: `None` where a goal fact is out of reach.
+// The greatest level of a goal fact, 0 without goals: `None` where a goal fact is out of reach. A `for`, which `?` can leave.
 pub fn goal_level<S: TaskSource>(source: &S) -> Option<u16>
     ensures { MatchOption result (GoalInReach (S.task source.now) → ⊥) (GoalAt (S.task source.now)) }
 {

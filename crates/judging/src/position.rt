@@ -16,11 +16,20 @@ pub struct Position {
     values: [usize; 64],
 }
 
+impl From<[usize; 64]> for Position {
+    ghost from_gives = { λ values p. p.values ≡ values };
+
+    fn from(given: [usize; 64]) -> Position {
+        Position { values: given }
+    }
+}
+
 impl Position {
     // The start of a task.
     pub fn start_of<S: TaskSource>(source: &S) -> Position
         ensures { (v : ℕ) → state_of result v ≡ (S.task source.now).start v }
     {
+        // Not by `array::from_fn`: the proof of its closure came near a limit of the check.
         let mut values = [0; 64];
         for (variable, value) in values.iter_mut().enumerate() {
             *value = source.start(variable);
@@ -35,7 +44,7 @@ impl Position {
         self.values.get(variable).copied().unwrap_or(0)
     }
 
-    // Puts the effects of an action there.
+    // Puts the effects of an action there; by index, since the source answers by number.
     pub fn advance<S: TaskSource>(&mut self, source: &S, action: usize)
         ensures { (v : ℕ) → state_of self.new v ≡ after (S.task source.now) (state_of self.old) action v }
     {
@@ -58,7 +67,7 @@ impl Position {
         }
     }
 
-    // The lowest number of a condition of an action that does not hold there.
+    // The lowest number of a condition of an action that does not hold there. A `for`: in a chain the closure would owe the bound of its sum.
     pub fn first_unmet<S: TaskSource>(&self, source: &S, action: usize) -> Option<usize>
         ensures { MatchOption result (Met (S.task source.now) (state_of self.now) action) (Lowest (Unmet (S.task source.now) (state_of self.now) action)) }
     {

@@ -2,7 +2,6 @@
 use Rattle.std.specs.Prelude.{◌≡◌, ℕ, ◌+◌, ◌-◌, ◌≤◌, Some, None, Option}
 use Rattle.task.specs.Task.{Task, facts}
 use Rattle.reach.specs.Built.{LevelsBuilt}
-use Rattle.key.specs.Keys.{Shows, task_of}
 use Rattle.rules.specs.Machine.{Machine, Count}
 use Rattle.lines.specs.declared.line.Line.{Line}
 use Rattle.key_text.specs.declared.cursor.Cursor.{Cursor}
@@ -22,13 +21,6 @@ pub data Stands (t : Task) (m : Machine) (x : Cursor) : ℕ → Type 0 where
 abbrev pub Passed : Task → Machine → ℕ → Cursor → Option Line → Type 0
 Passed t m n left (Some x) = LineAt t m n x × Stands t m left (n + 1)
 Passed t m n left None = LineCount t m n
-
--- a call on a cursor keeps its key, and answers the line at which it stood and moves it on, whatever machine the key shows
-pub record Moves (before : Cursor) (r : Option Line) (left : Cursor) : Type 0 where
-  pub key : left.key.now ≡ before.key.now
-  pub passed :
-      (m : Machine) (n : ℕ) → Shows before.key.now m → Stands (task_of before.key.now) m before n
-      → Passed (task_of before.key.now) m n left r
 
 -- how many facts and places of pairs are still to come
 abbrev pub unlisted : Task → Cursor → ℕ

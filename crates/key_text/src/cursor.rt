@@ -1,8 +1,8 @@
 // Going through the lines of a key.
-ghost use Rattle.std.specs.Prelude.{◌≡◌};
-ghost use Rattle.std.specs.Iterator.{at_most};
+ghost use Rattle.std.specs.Prelude.{◌≡◌, ℕ, ◌<◌, Some};
 ghost use Rattle.key.specs.Keys.{Shows, task_of};
-ghost use Rattle.key_text.specs.Cursors.{Moves, Stands, unlisted};
+ghost use Rattle.lines.specs.declared.line.Line.{Line as KeyLine};
+ghost use Rattle.key_text.specs.Cursors.{Passed, Stands, unlisted};
 ghost use Rattle.rules.specs.Machine.{Machine};
 
 use key::keys::Key;
@@ -12,40 +12,31 @@ use listing::pair::{PLACES, Pair};
 use reach::tables::LevelTable;
 use task::facts::count_facts;
 
-// Where a listing of a key stands: the levels of the key's task, the lowest fact and the first place of a pair that are still to come.
+// Where a listing stands: the levels of the key's task, the lowest fact and the first place of a pair that are still to come.
 #[derive(Drop)]
-pub struct Cursor<'a> {
-    key: &'a Key,
+pub struct Cursor {
     levels: LevelTable,
     fact: usize,
     place: usize,
 }
 
-impl<'a> Cursor<'a> {
+impl Cursor {
     // A cursor before the first line of a key.
-    pub fn start(key: &'a Key) -> Cursor<'a>
-        ensures key { result.key.now ≡ key.now }
-        ensures stands { (m : Machine) → Shows key.now m → Stands (task_of key.now) m result 0 }
+    pub fn start(key: &Key) -> Cursor
+        ensures { (m : Machine) → Shows key.now m → Stands (task_of key.now) m result 0 }
     {
         Cursor {
-            key,
             levels: LevelTable::of(key.source()),
             fact: 0,
             place: 0,
         }
     }
-}
 
-impl<'a> Iterator for Cursor<'a> {
-    type Item = Line;
-
-    ghost next_gives = { Moves };
-
-    ghost remaining = { λ s. at_most (unlisted (task_of s.key.now) s) };
-
-    // The next line, and moves the cursor on: `None` behind the last line.
-    fn next(&mut self) -> Option<Line> {
-        let key = self.key;
+    // The next line of the key in whose lines the cursor stands, and moves it on: `None` behind the last line.
+    pub fn next_line(&mut self, key: &Key) -> Option<Line>
+        ensures passed { (m : Machine) (n : ℕ) → Shows key.now m → Stands (task_of key.now) m self.old n → Passed (task_of key.now) m n self.new result }
+        ensures fewer { (x : KeyLine) → result ≡ Some x → unlisted (task_of key.now) self.new < unlisted (task_of key.now) self.old }
+    {
         let facts = count_facts(key.source());
         if let Some(fact) = (self.fact..facts).find(|number| key.holds(*number)) {
             self.fact = fact + 1;

@@ -4,7 +4,7 @@ ghost use Rattle.key_text.specs.Joined.{KeyText};
 ghost use Rattle.rules.specs.Machine.{Machine};
 ghost use Rattle.std.specs.Prelude.{IfOk};
 
-use crate::cursor::Cursor;
+use crate::key_lines::KeyLines;
 use key::keys::Key;
 use std::alloc::{AllocError, Global};
 
@@ -13,7 +13,7 @@ pub fn key_text(heap: Global, key: &Key) -> Result<Vec<u8>, AllocError>
     ensures { IfOk result (λ text. ((m : Machine) → Shows key.now m → KeyText (task_of key.now) m text.items)) }
 {
     let mut text = String::new(heap);
-    for line in Cursor::start(key) {
+    for line in KeyLines::of(key) {
         write!(text, "{line}")?;
     }
     Ok(text.into_bytes())

@@ -6,7 +6,7 @@ use reach::tables::ReachTable;
 
 // `reach` is the task's own reach and `missed` its lowest goal fact out of it. `held` and `orderings` are the key. `tally` counts the
 // proposals and orderings that were not confirmed.
-// Each call has three clauses, and not one record of them: the check finds `source` and `tally` by itself, and an answer says `turn`.
+// Each call has its clauses one by one, and not as one record: the check finds `source` and `tally` by itself, and a proof file gives `turn`.
 #[derive(Drop)]
 pub struct Marker<S> {
     source: S,

@@ -3,7 +3,7 @@ ghost use Rattle.std.specs.Prelude.{◌≡◌, vec_len};
 
 use judging::fact_set::FactSet;
 
-// For each kind, and each fact that a task may have, the set of the later facts.
+// For each kind, and each fact that a task may have, the set of the later facts. A list for each kind, since a call asks of one alone.
 #[derive(Drop)]
 pub(crate) struct Orderings {
     greedy: Vec<FactSet>,

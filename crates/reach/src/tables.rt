@@ -1,5 +1,5 @@
 // Tables of what a task reaches, one value for each fact by its number. A task has 256 facts at most, so a table always has room.
-// Two structs, since Rattle has no array of a type parameter.
+// Two structs, since what they promise and answer differs: a table of any measure would promise neither.
 ghost use Rattle.std.specs.Prelude.{◌≡◌, ◌-◌, ◌≤◌, false, get_or, slice_index_or};
 ghost use Rattle.reach.specs.Built.{LevelsBuilt, ReachBuilt};
 ghost use Rattle.reach.specs.Measures.{layer_of, of_level, of_yes};
@@ -32,6 +32,15 @@ impl ReachTable {
         ensures { result ≡ (get_or self.now.table number (of_yes false)).yes }
     {
         self.table.get(number).is_some_and(|value| value.yes)
+    }
+}
+
+// A table that was filled elsewhere, as by `build_reach`.
+impl From<[InReach; 256]> for ReachTable {
+    ghost from_gives = { λ values r. r.table ≡ values };
+
+    fn from(given: [InReach; 256]) -> ReachTable {
+        ReachTable { table: given }
     }
 }
 

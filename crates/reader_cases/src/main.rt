@@ -29,9 +29,7 @@ fn run<F: RecordForm, P: Fn(&HostRuntime, &Document<F>) -> io::Result<()>>(
 }
 
 fn run_case(rt: &HostRuntime, line: &str) -> Result<(), ProgramFault> {
-    let Some((form, digits)) = line.split_once(':') else {
-        return Err(ProgramFault::Unreadable);
-    };
+    let (form, digits) = line.split_once(':').ok_or(ProgramFault::Unreadable)?;
     let bytes = case_bytes(rt.alloc(), digits)?;
     match form {
         "paper" => run::<PaperForm, _>(rt, bytes.as_slice(), print_counts),

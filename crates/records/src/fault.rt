@@ -98,6 +98,7 @@ impl ReadFault {
     }
 }
 
+// By hand, since what `?` makes of an error stands in a contract.
 impl From<RecordFault> for ReadFault {
     ghost from_gives = { λ e r. r ≡ AtRecord e };
 

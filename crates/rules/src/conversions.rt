@@ -1,5 +1,5 @@
-// The kind with a number, the number of a kind, and results of the single calls as answers: three blocks of one shape, since an own macro
-// may write no `impl`.
+// The kind with a number, the number of a kind, and results of the single calls as answers. The last three blocks have one shape, since an
+// own macro may write no `impl`, and one block for any result would need a trait to say which answer a value is.
 use crate::calls::{Answer, Kind, Mark, Refusal, Standing};
 
 impl TryFrom<usize> for Kind {

@@ -5,7 +5,8 @@ ghost use Rattle.task.specs.Facts.{Exactly};
 
 use crate::words::next_word;
 
-// The number that a word of digits writes; one above the largest that there is counts as that.
+// The number that a word of digits writes; one above the largest that there is counts as that. A `for`, since `try_fold` would hold the
+// same lines in a closure.
 fn parse_number(word: &[u8]) -> Option<usize>
     ensures { Exactly (Writes word.now) result }
 {

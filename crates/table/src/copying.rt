@@ -24,6 +24,7 @@ fn copy_values<F: Fn(usize) -> Option<usize>>(answer: F) -> [Option<u8>; PLACES]
     requires small { (v x : ℕ) → v < 64 → F.post answer v (Some x) → x < 256 }
     ensures { (v : ℕ) → v < 64 → F.post answer v (slice_index_or result v None) }
 {
+    // Not by `array::from_fn`, whose closure would need a proof of its own that says what `answer` gave.
     let mut values = [None; PLACES];
     for (variable, value) in values.iter_mut().enumerate() {
         *value = narrow(answer(variable));

@@ -1,6 +1,8 @@
 // The moves of a sitting.
-ghost use Rattle.std.specs.Prelude.{ℕ, ◌<◌, List, [], ◌∷◌, ◌++◌};
+ghost use Rattle.std.specs.Prelude.{◌≡◌, ℕ, ◌+◌, ◌<◌, min, List, [], ◌∷◌, ◌++◌};
+ghost use Rattle.judging.specs.Position.{Marked, state_of};
 ghost use Rattle.judging.specs.Sittings.{SitsAfter};
+ghost use Rattle.task.specs.Paths.{after};
 
 use super::Sitting;
 use crate::fact_set::FactSet;
@@ -24,7 +26,10 @@ impl Sitting {
 
     // Takes an action; the steps are counted up to 65535.
     pub fn step<S: TaskSource>(&mut self, source: &S, action: usize)
-        ensures { self.old.steps < 65535 → (moves : List ℕ) → SitsAfter (S.task source.now) moves self.old → SitsAfter (S.task source.now) (moves ++ action ∷ []) self.new }
+        ensures position { (v : ℕ) → state_of self.new.position v ≡ after (S.task source.now) (state_of self.old.position) action v }
+        ensures visited { Marked (S.task source.now) self.old.visited (state_of self.new.position) (S.task source.now).vars self.new.visited }
+        ensures steps { self.new.steps ≡ min (self.old.steps + 1) 65535 }
+        ensures moved { self.old.steps < 65535 → (moves : List ℕ) → SitsAfter (S.task source.now) moves self.old → SitsAfter (S.task source.now) (moves ++ action ∷ []) self.new }
     {
         self.position.advance(source, action);
         self.position.mark_facts(source, &mut self.visited);

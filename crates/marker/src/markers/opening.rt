@@ -21,7 +21,7 @@ impl<S: TaskSource + Drop> Marker<S> {
     {
         let orderings = Orderings::new(heap)?;
         let reach = ReachTable::of(&source);
-        let missed = missed_goal(&source, &reach);
+        let missed = missed_goal(&source);
         let sitting = Sitting::start_of(&source);
         Ok(Marker {
             source,

@@ -1,14 +1,14 @@
 use Rattle.std.proofs.Common.{sym, ap, subst, string_bytes, vec_items}
 use Rattle.key.specs.Keys.{task_of}
 use Rattle.key_text.specs.Joined.{KeyText}
-use Rattle.key_text.specs.declared.cursor.Cursor.{Cursor}
+use Rattle.key_text.specs.declared.key_lines.KeyLines.{KeyLines}
 use Rattle.key_text.proofs.Joining.{Told, told_none, told_more, told_all}
 use Rattle.key_text.proofs.text.key_text.Goals as goal
 
 pub loop-line-init : goal.loop-line-init
 loop-line-init c =
-    subst (λ (x : Cursor). Told c.args.key.now x (string_bytes c.new-text.result)) (sym c.into_iter-line-iterator.ensures.into_iter_gives)
-    (told_none c.args.key.now c.start-line-items.result _ c.start-line-items.ensures.key c.start-line-items.ensures.stands c.new-text.ensures.bytes)
+    subst (λ (x : KeyLines). Told c.args.key.now x (string_bytes c.new-text.result)) (sym c.into_iter-line-iterator.ensures.into_iter_gives)
+    (told_none c.args.key.now c.of-line-items.result _ c.of-line-items.ensures.key c.of-line-items.ensures.stands c.new-text.ensures.bytes)
 
 pub loop-line-preserved : goal.loop-line-preserved
 loop-line-preserved c = told_more c.args.key.now c.loop-line.line-iterator c.next.new.self c.in-Some.line _ _ c.loop-line.invariant c.in-Some.ensures.steps c.in_ok-write.ensures.bytes

@@ -6,8 +6,8 @@ use Rattle.judging.specs.Position.{state_of}
 use Rattle.judging.proofs.Visits.{visited_more}
 use Rattle.judging.proofs.sitting.Sitting.step.Goals as goal
 
-pub returns : goal.returns
-returns g c few moves sits =
+pub returns-clause-moved : goal.returns-clause-moved
+returns-clause-moved g c few moves sits =
     let t = g.S.TaskSource.task c.args.source.now in
     let a = c.args.action in
     let next : (v : ℕ) → state_of c.advance.new.self v ≡ after t (reached t t.start moves) a v = λ v. c.advance.ensures v ∙ ap (λ s. after t s a v) (fun_ext sits.state) in

@@ -26,5 +26,5 @@ pub returns : goal.returns
 returns g c = record {
   source = refl;
   tally = refl;
-  turn = λ m s. step_turn s _ _ c.in_ok-check_goal.ensures (sym c.is_present.ensures ∙ c.if-not-is_present.false) c.if-full.false c.in_default.ensures (c.step.ensures (omega (arith, c.if-full.false))) refl refl refl refl;
+  turn = λ m s. step_turn s _ _ c.in_ok-check_goal.ensures (sym c.is_present.ensures ∙ c.if-not-is_present.false) c.if-full.false c.in_default.ensures (c.step.ensures.moved (omega (arith, c.if-full.false))) refl refl refl refl;
 }

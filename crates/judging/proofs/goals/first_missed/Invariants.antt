@@ -1,6 +1,6 @@
 use Rattle.reach.specs.Built.{ReachBuilt}
 use Rattle.judging.proofs.Reached.{GoalsBelow}
-use Rattle.judging.proofs.goals.missed_goal.Given as goal
+use Rattle.judging.proofs.goals.first_missed.Given as goal
 
 abbrev pub invariant-loop-variable : goal.invariant-loop-variable
 invariant-loop-variable g l =

@@ -4,9 +4,9 @@ use Rattle.task.proofs.Options.{no_some, some_same}
 use Rattle.judging.proofs.Places.{value_place}
 use Rattle.judging.proofs.Reached.{GoalsBelow, goals_more, goal_in_reach, goal_near, goal_far}
 use Rattle.reach.specs.Relaxed.{Reach}
-use Rattle.judging.proofs.goals.missed_goal.Goals.{in-Some+else-not-has, in_default}
-use Rattle.judging.proofs.goals.missed_goal.Given as given
-use Rattle.judging.proofs.goals.missed_goal.Goals as goal
+use Rattle.judging.proofs.goals.first_missed.Goals.{in-Some+else-not-has, in_default}
+use Rattle.judging.proofs.goals.first_missed.Given as given
+use Rattle.judging.proofs.goals.first_missed.Goals as goal
 
 below : (g : given.Over) (c : goal.After-offset g) → c.offset.result + c.in-Some.value < 256
 below g c =
