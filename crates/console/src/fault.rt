@@ -1,4 +1,4 @@
-// Why a program has no answer but a refusal.
+// Why a program has no answer.
 ghost use Rattle.console.specs.declared.fault.ProgramFault.TheVariants.{Memory, Read, Unreadable};
 ghost use Rattle.console.specs.Lines.{line_of};
 ghost use Rattle.std.specs.Prelude.{◌≡◌};

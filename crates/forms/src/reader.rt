@@ -12,7 +12,7 @@ use records::fault::{Ground, ReadFault, RecordFault, Refusal};
 use records::record::{Kind, Record};
 use std::alloc::Global;
 
-// Refuses on a ground that is there.
+// Refuses where there is a ground to.
 fn refuse_if(there: bool, refusal: Refusal, byte: u8) -> Result<(), Ground>
     ensures { MatchResult result (λ _. there ≡ false) (λ g. (there ≡ true) × (g ≡ record { refusal = refusal; byte = byte })) }
 {

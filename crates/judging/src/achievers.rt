@@ -25,6 +25,7 @@ fn has_conditions<S: TaskSource>(source: &S, reach: &ReachTable, action: usize) 
     true
 }
 
+// The two facts of an ordering stay two parameters, as in the definitions: a struct would be taken apart in each clause.
 // Whether an action achieves the later fact and does not need the earlier one, and the table has all its conditions.
 fn is_lacking<S: TaskSource>(
     source: &S,

@@ -15,6 +15,7 @@ pub fn list_line(key: &Key, number: usize, buffer: &mut [u8]) -> Result<usize, L
     ensures fits { IfOk result (λ n. n ≤ length buffer.new) }
     ensures listed { (m : Machine) → Shows key.now m → Listed (task_of key.now) m number buffer.old buffer.new result }
 {
+    // An `if let` and no `?`, which would want a function for this one test.
     if let Some(goal) = key.missed() {
         return Err(ListingRefusal::GoalOutOfReach(goal));
     }

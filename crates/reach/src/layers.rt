@@ -67,10 +67,7 @@ pub fn build_layers<S: TaskSource, M: Measure>(
     ensures { MatchOption result (TooShort (S.task source.now) values.old scratch.old values.new scratch.new) (λ n. LayersBuilt M.ops (S.task source.now) n values.old scratch.old values.new scratch.new) }
 {
     let count = count_facts(source);
-    if values.len() < count {
-        return None;
-    }
-    if scratch.len() < count {
+    if values.len() < count || scratch.len() < count {
         return None;
     }
     let front = &mut values[0..count];

@@ -30,11 +30,12 @@ fn mark_start<S: TaskSource, M: Measure>(source: &S, values: &mut [M])
     requires { length values.old ≡ facts (S.task source.now) }
     ensures { values.new ≡ started M.ops (S.task source.now) values.old (S.task source.now).vars }
 {
-    // The offset runs along, since `source.offset` would sum the sizes anew for each variable.
-    let mut offset = 0;
     for variable in 0..source.variables() {
-        put(values, offset + source.start(variable), M::at_start());
-        offset += source.size(variable);
+        put(
+            values,
+            source.offset(variable) + source.start(variable),
+            M::at_start(),
+        );
     }
 }
 

@@ -6,7 +6,7 @@ ghost use Rattle.records.specs.declared.fault.ReadFault.TheVariants.{Memory, Rec
 use std::alloc::AllocError;
 
 // Why a record is refused, and the number that it goes by.
-#[derive(Clone, Copy, Debug, PartialEq)]
+#[derive(Clone, Copy, Debug, PartialEq, Eq)]
 pub enum Refusal {
     Form = 2,
     Place = 3,
@@ -16,21 +16,21 @@ pub enum Refusal {
 }
 
 // Why, and at which byte of the record.
-#[derive(Clone, Copy, Debug, PartialEq)]
+#[derive(Clone, Copy, Debug, PartialEq, Eq)]
 pub struct Ground {
     pub refusal: Refusal,
     pub byte: u8,
 }
 
 // What is wrong with a record, and its number from 0.
-#[derive(Clone, Copy, Debug, PartialEq)]
+#[derive(Clone, Copy, Debug, PartialEq, Eq)]
 pub struct RecordFault {
     pub index: usize,
     pub ground: Ground,
 }
 
 // Why bytes are not read: their length, a record, or want of memory.
-#[derive(Clone, Copy, Debug, PartialEq)]
+#[derive(Clone, Copy, Debug, PartialEq, Eq)]
 pub enum ReadFault {
     Length,
     Record(RecordFault),
@@ -38,7 +38,7 @@ pub enum ReadFault {
 }
 
 // What is printed of a refusal: `E LAYER NUMBER PLACE BYTE`.
-#[derive(Clone, Copy, Debug, PartialEq)]
+#[derive(Clone, Copy, Debug, PartialEq, Eq)]
 pub struct FaultLine {
     pub layer: u8,
     pub number: u8,

@@ -36,6 +36,7 @@ impl<S: TaskSource> Marker<S> {
         if full {
             return Err(Refusal::TooManySteps(action));
         }
+        // An `if let` and no `?`, which would want a function for this one test.
         if let Some(number) = self.sitting.position.first_unmet(&self.source, action) {
             return Err(Refusal::UnmetCondition(number));
         }

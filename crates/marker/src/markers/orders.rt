@@ -12,7 +12,8 @@ use task::facts::fact_at;
 use task::task_source::TaskSource;
 
 impl<S: TaskSource> Marker<S> {
-    // Takes an ordering of two facts of the key if all achievers of the later one that count need the earlier one.
+    // Takes an ordering of two facts of the key if all achievers of the later one that count need the earlier one. The kind comes by its
+    // number, since the rules answer a number of no kind too.
     pub fn order(&mut self, kind: usize, earlier: usize, later: usize) -> Result<Mark, Refusal>
         ensures source { self.new.source ≡ self.old.source }
         ensures tally { self.new.tally ≡ tallied self.old.tally (marked result) }
@@ -34,6 +35,7 @@ impl<S: TaskSource> Marker<S> {
         if self.orderings.contains(sort, earlier, later) {
             return Ok(Mark::Known);
         }
+        // An `if let` and no `?`, since the tally goes up too.
         if let Some(action) = lacking_action(&self.source, &self.reach, sort, first, second) {
             self.tally = self.tally.saturating_add(1);
             return Err(Refusal::Unordered(action));
