@@ -21,7 +21,7 @@ mod tests {
         1, 0, 3, 0, 0, 0, 4, 4, 1, 0, 5, 5, 2, 0,
     ];
 
-    // The levels of the thirteen facts, and the number of layers.
+    // The levels of the thirteen facts, and the number of layers; by `build_levels` itself, which is tried with them.
     fn levels_of<S: TaskSource>(source: &S) -> (Option<usize>, [Option<u16>; 13]) {
         let mut levels = [AtLevel { level: 7 }; 256];
         let mut scratch = [AtLevel { level: 7 }; 256];
