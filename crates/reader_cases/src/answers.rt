@@ -21,7 +21,7 @@ impl fmt::Display for Value {
 }
 
 // How many variables, facts and actions the task has.
-pub fn print_counts<S: TaskSource>(rt: &HostRuntime, source: &S) -> io::Result<()> {
+pub(crate) fn print_counts<S: TaskSource>(rt: &HostRuntime, source: &S) -> io::Result<()> {
     let variables = source.variables();
     let facts = count_facts(source);
     let actions = source.actions();
@@ -56,7 +56,7 @@ fn print_action<S: TaskSource>(rt: &HostRuntime, source: &S, action: usize) -> i
 }
 
 // All that the task answers, and what it answers one past the last variable and action.
-pub fn print_answers<S: TaskSource>(rt: &HostRuntime, source: &S) -> io::Result<()> {
+pub(crate) fn print_answers<S: TaskSource>(rt: &HostRuntime, source: &S) -> io::Result<()> {
     print_variables(rt, source)?;
     for action in 0..=source.actions() {
         print_action(rt, source, action)?;

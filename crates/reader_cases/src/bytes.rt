@@ -48,7 +48,7 @@ fn add_word(bytes: &mut Vec<u8>, word: &str) -> Result<(), ProgramFault> {
 }
 
 // The bytes of a case.
-pub fn case_bytes(heap: Global, text: &str) -> Result<Vec<u8>, ProgramFault> {
+pub(crate) fn case_bytes(heap: Global, text: &str) -> Result<Vec<u8>, ProgramFault> {
     let mut bytes = Vec::new(heap);
     for word in text.split_ascii_whitespace() {
         add_word(&mut bytes, word)?;

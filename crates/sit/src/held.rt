@@ -106,7 +106,7 @@ fn state_reached(heap: Global, key: &Key) -> Result<Items, AllocError> {
 }
 
 // The facts and orderings that the key holds, and the state that the sitting has reached.
-pub fn held_text(heap: Global, key: &Key) -> Result<String, AllocError> {
+pub(crate) fn held_text(heap: Global, key: &Key) -> Result<String, AllocError> {
     let facts = held_facts(heap, key)?;
     let orderings = held_orderings(heap, key)?;
     let state = state_reached(heap, key)?;
