@@ -12,13 +12,13 @@ use crate::output::{print_account, print_fault};
 use account::account::Account;
 use account::building::account_of;
 use forms::document::Document;
-use forms::form::RecordForm;
+use forms::form::{RecordForm, SayingForm};
 use records::fault::ReadFault;
 use std::alloc::Global;
 use std::io;
 
 // The account of the document that the bytes are, of any form.
-fn levels_of<F: RecordForm>(heap: Global, bytes: &[u8]) -> Result<Account, ReadFault>
+fn levels_of<F: RecordForm + SayingForm>(heap: Global, bytes: &[u8]) -> Result<Account, ReadFault>
     ensures made { IfOk result (λ a. (t : Task) × Accepted (fault_of F.RecordForm.rules) (task_by F.RecordForm.rules) bytes.now t × AccountOf t a) }
     ensures refused { IfErr result (λ e. Refused (fault_of F.RecordForm.rules) bytes.now e ⊎ (e ≡ Memory)) }
 {
@@ -26,13 +26,13 @@ fn levels_of<F: RecordForm>(heap: Global, bytes: &[u8]) -> Result<Account, ReadF
     Ok(account_of(heap, &document)?)
 }
 
-fn levels_of_input<F: RecordForm>(rt: &HostRuntime) -> Result<Account, ProgramFault> {
+fn levels_of_input<F: RecordForm + SayingForm>(rt: &HostRuntime) -> Result<Account, ProgramFault> {
     let bytes = read_input(rt)?;
     Ok(levels_of::<F>(rt.alloc(), bytes.as_slice())?)
 }
 
 // Prints the level of every fact of the document on standard input, or why it is refused.
-pub fn print_levels<F: RecordForm>(rt: &HostRuntime) -> io::Result<()> {
+pub fn print_levels<F: RecordForm + SayingForm>(rt: &HostRuntime) -> io::Result<()> {
     match levels_of_input::<F>(rt) {
         Ok(account) => print_account(rt, &account),
         Err(fault) => print_fault(rt, &fault),

@@ -7,7 +7,7 @@ ghost use Rattle.lists.specs.View.{lists_of};
 ghost use Rattle.forms.specs.Forms.{fault_of, task_by};
 ghost use Rattle.forms.specs.Reading.{Accepted, Refused};
 
-use crate::form::RecordForm;
+use crate::form::{RecordForm, SayingForm};
 use crate::reader::read_table;
 use lists::table::Table;
 use records::fault::ReadFault;
@@ -23,11 +23,11 @@ pub struct Document<F> {
     ghost lawful: { KeptLawful (task_of (lists_of table)) },
 }
 
-impl<F: RecordForm> Document<F> {
+impl<F: RecordForm + SayingForm> Document<F> {
     // The document that the bytes are, or why they are refused.
     pub fn read(heap: Global, bytes: &[u8]) -> Result<Document<F>, ReadFault>
         ensures verdict { MatchResult result (λ d. Accepted (fault_of F.RecordForm.rules) (task_by F.RecordForm.rules) bytes.now (task_of (lists_of d.table))) (λ e. Refused (fault_of F.RecordForm.rules) bytes.now e) }
-        ensures says { IfOk result (λ d. F.RecordForm.says (records bytes.now) (task_of (lists_of d.table))) }
+        ensures says { IfOk result (λ d. F.SayingForm.says (records bytes.now) (task_of (lists_of d.table))) }
     {
         let table = read_table::<F>(heap, bytes)?;
         Ok(Document {

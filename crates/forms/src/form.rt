@@ -18,9 +18,6 @@ pub trait RecordForm {
     // The page of the form.
     ghost rules: { FormRules };
 
-    // What records say of their task.
-    ghost says: { List FormRecord → Task → Type 0 };
-
     // The kind that byte 0 tells, if it is one of this form.
     fn kind_of(number: u8) -> Option<Kind>
         ensures { result ≡ rules.kind number };
@@ -38,7 +35,13 @@ pub trait RecordForm {
 
     // One more record adds its entry to the lists.
     ghost grows: { Grows rules };
+}
+
+// A form that says in words of its own what its records mean.
+pub trait SayingForm: RecordForm {
+    // What records say of their task.
+    ghost says: { List FormRecord → Task → Type 0 };
 
     // The task of sound records is what they say.
-    ghost told: { SoundSay rules says };
+    ghost told: { SoundSay Self.RecordForm.rules says };
 }

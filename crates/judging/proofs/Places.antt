@@ -4,7 +4,7 @@ use Rattle.std.proofs.lemmas.Bool.{cases_eq, or_right, eq-eqb, ne_eqb}
 use Rattle.task.specs.Task.{Task, Fact, Lawful, Needs, Numbered, fact, offset}
 use Rattle.task.specs.Paths.{State, Holds}
 use Rattle.task.proofs.Inside.{need_var}
-use Rattle.task.proofs.Numbers.{number_in, numbered_unique}
+use Rattle.task.proofs.Numbers.{number_in, offset_below, numbered_unique}
 use Rattle.task.proofs.Options.{some_same}
 use Rattle.rules.specs.Machine.{Lowest, Unmet}
 use Rattle.judging.specs.declared.fact_set.FactSet.{FactSet}
@@ -112,3 +112,6 @@ unmet_at {t} law s a v off x inside at need unlike below =
 -- the number of a value of a variable, in a loop over the variables
 pub value_place : {t : Task} → Lawful t → (v end off x : ℕ) → v < end → end ≡ t.vars → off ≡ offset t.size v → x < t.size v → off + x < 256
 value_place {t} law v end off x low vars at small = omega (arith, number_in t.size v t.vars x (omega arith) small, law.few_facts)
+
+pub size_place : {t : Task} → Lawful t → (v end off : ℕ) → v < end → end ≡ t.vars → off ≡ offset t.size v → off + t.size v ≤ 256
+size_place {t} law v end off low vars at = omega (arith, offset_below t.size v t.vars (omega arith), law.few_facts)

@@ -15,12 +15,15 @@ use task::task_source::TaskSource;
 fn has_conditions<S: TaskSource>(source: &S, reach: &ReachTable, action: usize) -> bool
     ensures { Decides result (AllIn (S.task source.now) reach.now action) }
 {
+    let mut offset = 0;
     for variable in 0..source.variables() {
         if let Some(value) = source.need(action, variable) {
-            if !reach.has(source.offset(variable) + value) {
+            let number = offset + value;
+            if !reach.has(number) {
                 return false;
             }
         }
+        offset += source.size(variable);
     }
     true
 }

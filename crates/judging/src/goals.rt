@@ -5,6 +5,7 @@ ghost use Rattle.reach.specs.Relaxed.{GoalInReach};
 ghost use Rattle.rules.specs.Machine.{Lowest, MissedGoal};
 ghost use Rattle.rules.specs.Marks.{Landmark};
 
+use reach::measure::InReach;
 use reach::tables::ReachTable;
 use task::barred::Barred;
 use task::facts::Fact;
@@ -14,22 +15,26 @@ use task::task_source::TaskSource;
 fn first_missed<S: TaskSource>(source: &S, reach: &ReachTable) -> Option<usize>
     ensures { ReachBuilt (S.task source.now) reach.now.table → MatchOption result (GoalInReach (S.task source.now)) (Lowest (MissedGoal (S.task source.now))) }
 {
+    let mut offset = 0;
     for variable in 0..source.variables() {
         if let Some(value) = source.goal(variable) {
-            let number = source.offset(variable) + value;
+            let number = offset + value;
             if !reach.has(number) {
                 return Some(number);
             }
         }
+        offset += source.size(variable);
     }
     None
 }
 
-// The lowest number of a goal fact out of reach: `None` where the goal is in reach.
-pub fn missed_goal<S: TaskSource>(source: &S) -> Option<usize>
-    ensures { MatchOption result (GoalInReach (S.task source.now)) (Lowest (MissedGoal (S.task source.now))) }
+// Fills the table of the reach, and answers the lowest number of a goal fact out of it: `None` where the goal is in reach.
+pub fn missed_goal<S: TaskSource>(source: &S, reach: &mut ReachTable) -> Option<usize>
+    ensures reach { ReachBuilt (S.task source.now) reach.new.table }
+    ensures missed { MatchOption result (GoalInReach (S.task source.now)) (Lowest (MissedGoal (S.task source.now))) }
 {
-    first_missed(source, &ReachTable::of(source))
+    *reach = ReachTable::of(source);
+    first_missed(source, reach)
 }
 
 // Whether no relaxed sequence reaches the goal without a fact.
@@ -39,5 +44,7 @@ pub fn is_landmark<S: TaskSource>(source: &S, fact: Fact) -> bool
     if source.start(fact.variable) == fact.value {
         return true;
     }
-    missed_goal(&Barred::new(source, fact)).is_some()
+    let mut reach = ReachTable::from([InReach { yes: false }; 256]);
+    let barred = Barred::new(source, fact);
+    missed_goal(&barred, &mut reach).is_some()
 }

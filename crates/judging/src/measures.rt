@@ -37,11 +37,14 @@ pub fn goal_level<S: TaskSource>(source: &S) -> Option<u16>
 {
     let levels = LevelTable::of(source);
     let mut highest = 0;
+    let mut offset = 0;
     for variable in 0..source.variables() {
         if let Some(value) = source.goal(variable) {
-            let level = levels.level(source.offset(variable) + value)?;
+            let number = offset + value;
+            let level = levels.level(number)?;
             highest = level.max(highest);
         }
+        offset += source.size(variable);
     }
     Some(highest)
 }

@@ -59,11 +59,15 @@ impl Position {
     pub fn mark_facts<S: TaskSource>(&self, source: &S, marks: &mut FactSet)
         ensures { Marked (S.task source.now) marks.old (state_of self.now) (S.task source.now).vars marks.new }
     {
+        let mut offset = 0;
         for variable in 0..source.variables() {
+            let size = source.size(variable);
             let value = self.value(variable);
-            if value < source.size(variable) {
-                marks.insert(source.offset(variable) + value);
+            if value < size {
+                let number = offset + value;
+                marks.insert(number);
             }
+            offset += size;
         }
     }
 
@@ -71,12 +75,14 @@ impl Position {
     pub fn first_unmet<S: TaskSource>(&self, source: &S, action: usize) -> Option<usize>
         ensures { MatchOption result (Met (S.task source.now) (state_of self.now) action) (Lowest (Unmet (S.task source.now) (state_of self.now) action)) }
     {
+        let mut offset = 0;
         for variable in 0..source.variables() {
             if let Some(value) = source.need(action, variable) {
                 if self.value(variable) != value {
-                    return Some(source.offset(variable) + value);
+                    return Some(offset + value);
                 }
             }
+            offset += source.size(variable);
         }
         None
     }

@@ -5,7 +5,7 @@ ghost use Rattle.paper.specs.Meaning.{PaperSays};
 ghost use Rattle.paper.specs.Sayings.{paper_says};
 ghost use Rattle.std.specs.Prelude.{refl};
 
-use forms::form::{Entry, RecordForm};
+use forms::form::{Entry, RecordForm, SayingForm};
 use records::record::{Kind, Record};
 
 pub struct PaperForm;
@@ -13,13 +13,9 @@ pub struct PaperForm;
 impl RecordForm for PaperForm {
     ghost rules = { paper_rules };
 
-    ghost says = { PaperSays };
-
     ghost begins = { refl };
 
     ghost grows = { paper_grows };
-
-    ghost told = { paper_says };
 
     fn kind_of(number: u8) -> Option<Kind> {
         match number {
@@ -45,4 +41,10 @@ impl RecordForm for PaperForm {
             second: r.two,
         }
     }
+}
+
+impl SayingForm for PaperForm {
+    ghost says = { PaperSays };
+
+    ghost told = { paper_says };
 }

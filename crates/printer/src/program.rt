@@ -13,14 +13,14 @@ use console::input::read_input;
 use console::output::print_fault;
 use driver::marked::marked_key;
 use forms::document::Document;
-use forms::form::RecordForm;
+use forms::form::{RecordForm, SayingForm};
 use key::keys::Key;
 use records::fault::ReadFault;
 use std::alloc::Global;
 use std::io;
 
 // The marked key of the document that the bytes are, of any form.
-fn key_of<F: RecordForm>(heap: Global, bytes: &[u8]) -> Result<Key, ReadFault>
+fn key_of<F: RecordForm + SayingForm>(heap: Global, bytes: &[u8]) -> Result<Key, ReadFault>
     ensures made { IfOk result (λ k. (t : Task) × Accepted (fault_of F.RecordForm.rules) (task_by F.RecordForm.rules) bytes.now t × MarkedKey t k) }
     ensures refused { IfErr result (λ e. Refused (fault_of F.RecordForm.rules) bytes.now e ⊎ (e ≡ Memory)) }
 {
@@ -28,13 +28,13 @@ fn key_of<F: RecordForm>(heap: Global, bytes: &[u8]) -> Result<Key, ReadFault>
     Ok(marked_key(heap, &document)?)
 }
 
-fn key_of_input<F: RecordForm>(rt: &HostRuntime) -> Result<Key, ProgramFault> {
+fn key_of_input<F: RecordForm + SayingForm>(rt: &HostRuntime) -> Result<Key, ProgramFault> {
     let bytes = read_input(rt)?;
     Ok(key_of::<F>(rt.alloc(), bytes.as_slice())?)
 }
 
 // Prints the key of the document on standard input, or why it is refused.
-pub fn print_input_key<F: RecordForm>(rt: &HostRuntime) -> io::Result<()> {
+pub fn print_input_key<F: RecordForm + SayingForm>(rt: &HostRuntime) -> io::Result<()> {
     match key_of_input::<F>(rt) {
         Ok(key) => print_key(rt, &key),
         Err(fault) => print_fault(rt, &fault),

@@ -30,12 +30,11 @@ fn mark_start<S: TaskSource, M: Measure>(source: &S, values: &mut [M])
     requires { length values.old ≡ facts (S.task source.now) }
     ensures { values.new ≡ started M.ops (S.task source.now) values.old (S.task source.now).vars }
 {
+    // The offset runs along, as in the two other loops of this kind: `source.offset` goes over the variables anew.
+    let mut offset = 0;
     for variable in 0..source.variables() {
-        put(
-            values,
-            source.offset(variable) + source.start(variable),
-            M::at_start(),
-        );
+        put(values, offset + source.start(variable), M::at_start());
+        offset += source.size(variable);
     }
 }
 

@@ -10,14 +10,14 @@ use bytes::case_bytes;
 use console::fault::ProgramFault;
 use console::output::print_fault;
 use forms::document::Document;
-use forms::form::RecordForm;
+use forms::form::{RecordForm, SayingForm};
 use paper::form::PaperForm;
 use sheet::form::SheetForm;
 use std::io;
 use std::io::{BufRead, BufReader};
 
 // Reads a document of some form and prints what is asked of it.
-fn run<F: RecordForm, P: Fn(&HostRuntime, &Document<F>) -> io::Result<()>>(
+fn run<F: RecordForm + SayingForm, P: Fn(&HostRuntime, &Document<F>) -> io::Result<()>>(
     rt: &HostRuntime,
     bytes: &[u8],
     print: P,

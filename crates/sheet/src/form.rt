@@ -5,7 +5,7 @@ ghost use Rattle.sheet.specs.Meaning.{SheetSays};
 ghost use Rattle.sheet.specs.Sayings.{sheet_says};
 ghost use Rattle.std.specs.Prelude.{refl};
 
-use forms::form::{Entry, RecordForm};
+use forms::form::{Entry, RecordForm, SayingForm};
 use records::record::{Kind, Record};
 
 pub struct SheetForm;
@@ -13,13 +13,9 @@ pub struct SheetForm;
 impl RecordForm for SheetForm {
     ghost rules = { sheet_rules };
 
-    ghost says = { SheetSays };
-
     ghost begins = { refl };
 
     ghost grows = { sheet_grows };
-
-    ghost told = { sheet_says };
 
     fn kind_of(number: u8) -> Option<Kind> {
         match number {
@@ -56,4 +52,10 @@ impl RecordForm for SheetForm {
             },
         }
     }
+}
+
+impl SayingForm for SheetForm {
+    ghost says = { SheetSays };
+
+    ghost told = { sheet_says };
 }

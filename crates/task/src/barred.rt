@@ -75,4 +75,28 @@ impl<S: TaskSource> TaskSource for Barred<S> {
     fn effect(&self, action: usize, variable: usize) -> Option<usize> {
         self.inner.effect(action, variable)
     }
+
+    fn offset(&self, variable: usize) -> usize {
+        self.inner.offset(variable)
+    }
+
+    fn next_need(&self, action: usize, variable: usize) -> Option<Fact> {
+        self.inner.next_need(action, variable)
+    }
+
+    fn next_effect(&self, action: usize, variable: usize) -> Option<Fact> {
+        self.inner.next_effect(action, variable)
+    }
+
+    fn next_user(&self, fact: Fact, action: usize) -> Option<usize> {
+        self.inner.next_user(fact, action)
+    }
+
+    fn next_achiever(&self, fact: Fact, action: usize) -> Option<usize> {
+        self.inner.next_achiever(fact, action)
+    }
+
+    fn count_needs(&self, action: usize) -> usize {
+        self.inner.count_needs(action)
+    }
 }

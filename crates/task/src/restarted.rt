@@ -3,6 +3,7 @@ ghost use Rattle.std.specs.Prelude.{◌≡◌, slice_index};
 ghost use Rattle.task.specs.Limits.{restarted_lawful};
 ghost use Rattle.task.specs.Paths.{restarted as from};
 
+use crate::facts::Fact;
 use crate::task_source::TaskSource;
 
 #[derive(Drop)]
@@ -62,5 +63,29 @@ impl<'a, S: TaskSource> TaskSource for Restarted<'a, S> {
 
     fn effect(&self, action: usize, variable: usize) -> Option<usize> {
         self.inner.effect(action, variable)
+    }
+
+    fn offset(&self, variable: usize) -> usize {
+        self.inner.offset(variable)
+    }
+
+    fn next_need(&self, action: usize, variable: usize) -> Option<Fact> {
+        self.inner.next_need(action, variable)
+    }
+
+    fn next_effect(&self, action: usize, variable: usize) -> Option<Fact> {
+        self.inner.next_effect(action, variable)
+    }
+
+    fn next_user(&self, fact: Fact, action: usize) -> Option<usize> {
+        self.inner.next_user(fact, action)
+    }
+
+    fn next_achiever(&self, fact: Fact, action: usize) -> Option<usize> {
+        self.inner.next_achiever(fact, action)
+    }
+
+    fn count_needs(&self, action: usize) -> usize {
+        self.inner.count_needs(action)
     }
 }

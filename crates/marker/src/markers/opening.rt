@@ -8,6 +8,7 @@ use crate::orderings::Orderings;
 use judging::fact_set::FactSet;
 use judging::goals::missed_goal;
 use judging::sitting::Sitting;
+use reach::measure::InReach;
 use reach::tables::ReachTable;
 use std::alloc::{AllocError, Global};
 use task::task_source::TaskSource;
@@ -20,8 +21,8 @@ impl<S: TaskSource + Drop> Marker<S> {
         ensures tally { IfOk result (λ k. k.tally ≡ 0) }
     {
         let orderings = Orderings::new(heap)?;
-        let reach = ReachTable::of(&source);
-        let missed = missed_goal(&source);
+        let mut reach = ReachTable::from([InReach { yes: false }; 256]);
+        let missed = missed_goal(&source, &mut reach);
         let sitting = Sitting::start_of(&source);
         Ok(Marker {
             source,

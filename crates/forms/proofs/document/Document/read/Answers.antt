@@ -18,5 +18,5 @@ returns g c =
     let rs = records c.args.bytes.now in
     record {
       verdict = record { long = w.long; sound = w.sound; means = ap task_of w.is };
-      says = subst (λ (b : Lists). g.F.RecordForm.says rs (task_of b)) (sym w.is) (g.met.F.RecordForm.told rs w.sound);
+      says = subst (λ (b : Lists). g.F.SayingForm.says rs (task_of b)) (sym w.is) (g.met.F.SayingForm.told rs w.sound);
     }

@@ -5,6 +5,6 @@ use Rattle.marker.proofs.markers.Marker.open.Goals as goal
 pub returns : goal.returns
 returns g c = record {
   source = refl;
-  opened = shows_opened _ _ c.empty.ensures c.in_ok-orderings.ensures c.start_of-sitting.ensures c.of-reach.ensures c.missed_goal-missed.ensures;
+  opened = shows_opened _ _ c.empty.ensures c.in_ok-orderings.ensures c.start_of-sitting.ensures c.missed_goal-missed.ensures.reach c.missed_goal-missed.ensures.missed;
   tally = refl;
 }

@@ -1,21 +1,26 @@
-use Rattle.std.proofs.Common.{rules, ◌∙◌, arith}
-use Rattle.std.proofs.lemmas.Iterator.{YieldsList-from_map, YieldsList-from_range}
-use Rattle.std.proofs.lemmas.Iterator.Consumers.{fits_from_yields_list, sum_from_yields_List}
-use Rattle.task.proofs.Next.{offset_few, offset_min, offset_sum}
+use Rattle.std.proofs.Common.{◌∙◌, arith}
+use Rattle.task.proofs.Next.{offset_min}
+use Rattle.task.proofs.Numbers.{offset_below, offset_more}
 use Rattle.task.proofs.task_source.TaskSource.offset.Goals as goal
 
-pub sum-requires-clause-fits : goal.sum-requires-clause-fits
-sum-requires-clause-fits g c =
+pub overflow_add-offset : goal.overflow_add-offset
+overflow_add-offset g c =
     let t = g.Self.TaskSource.task c.args.self.now in
     let lawful = g.Self.TaskSource.lawful c.args.self.now in
-    let n = c.min.result in
-    fits_from_yields_list {v = λ x. x} _ _ (YieldsList-from_map _ t.size (YieldsList-from_range 0 n n c.map.ensures.source (omega arith)) c.map.ensures.closure (λ x r q k. search rules))
-    (omega (arith, offset_sum t.size n, offset_few lawful c.args.variable n (omega (arith, c.min.ensures, c.variables.ensures))))
+    omega (
+      arith,
+      c.loop-earlier.invariant,
+      c.size-offset.ensures,
+      offset_below t.size c.loop-earlier.earlier t.vars (omega (arith, c.loop-earlier-test.true, c.variables.ensures)),
+      lawful.few_facts,
+    )
+
+pub loop-earlier-preserved : goal.loop-earlier-preserved
+loop-earlier-preserved g c =
+    let t = g.Self.TaskSource.task c.args.self.now in
+    omega (arith, offset_more t.size c.loop-earlier.earlier, c.loop-earlier.invariant, c.size-offset.ensures)
 
 pub returns : goal.returns
 returns g c =
-    let t = g.Self.TaskSource.task c.args.self.now in
     let lawful = g.Self.TaskSource.lawful c.args.self.now in
-    let n = c.min.result in
-    sum_from_yields_List {v = λ x. x} _ _ c.sum.ensures.ran (YieldsList-from_map _ t.size (YieldsList-from_range 0 n n c.map.ensures.source (omega arith)) c.map.ensures.closure (λ x r q k. search rules))
-    ∙ offset_sum t.size n ∙ offset_min lawful c.args.variable n (omega (arith, c.min.ensures, c.variables.ensures))
+    c.loop-earlier.invariant ∙ offset_min lawful c.args.variable c.loop-earlier.earlier (omega (arith, c.loop-earlier-test.false, c.min-earlier-end.ensures, c.variables.ensures))
