@@ -1,2 +1,3 @@
 pub mod Standing
 pub mod Joining
+pub mod Rows

@@ -1,14 +1,15 @@
 // Going through the lines of a key.
-ghost use Rattle.std.specs.Prelude.{◌≡◌, ℕ, ◌<◌, Some};
+ghost use Rattle.std.specs.Prelude.{◌≡◌, ℕ, ◌<◌, ◌≤◌, Some, None};
 ghost use Rattle.key.specs.Keys.{Shows, task_of};
 ghost use Rattle.lines.specs.declared.line.Line.{Line as KeyLine};
 ghost use Rattle.key_text.specs.Cursors.{Passed, Stands, unlisted};
+ghost use Rattle.listing.specs.Listing.{OrderedAt};
 ghost use Rattle.rules.specs.Machine.{Machine};
 
 use key::keys::Key;
 use lines::line::Line;
 use listing::fact::fact_line;
-use listing::pair::{PLACES, Pair};
+use listing::pair::Pair;
 use reach::tables::LevelTable;
 use task::facts::count_facts;
 
@@ -18,6 +19,27 @@ pub struct Cursor {
     levels: LevelTable,
     fact: usize,
     place: usize,
+}
+
+// The place of the key's first ordered pair from a place on. It goes row by row: in a row the earlier fact is looked up once.
+fn next_pair(key: &Key, from: usize) -> Option<usize>
+    ensures within { (n : ℕ) → result ≡ Some n → (from ≤ n) × (n < 65536) }
+    ensures first { (m : Machine) (n : ℕ) → Shows key.now m → result ≡ Some n → OrderedAt m n × ((k : ℕ) → from ≤ k → k < n → OrderedAt m k → ⊥) }
+    ensures none { (m : Machine) (k : ℕ) → Shows key.now m → result ≡ None → from ≤ k → k < 65536 → OrderedAt m k → ⊥ }
+{
+    for earlier in from / 256..256 {
+        let row = earlier * 256;
+        let start = from.saturating_sub(row);
+        let is_ordered = |later: &usize| Pair {
+            earlier,
+            later: *later,
+        }
+        .is_ordered(key);
+        if let Some(later) = (start..256).find(is_ordered) {
+            return Some(row + later);
+        }
+    }
+    None
 }
 
 impl Cursor {
@@ -43,7 +65,7 @@ impl Cursor {
             return Some(Line::Fact(fact_line(key, &self.levels, fact)));
         }
         self.fact = facts;
-        let place = (self.place..PLACES).find(|place| Pair::at(*place).is_ordered(key))?;
+        let place = next_pair(key, self.place)?;
         self.place = place + 1;
         Some(Line::Order(Pair::at(place).line(key)))
     }
