@@ -29,12 +29,18 @@ impl Position {
     pub fn start_of<S: TaskSource>(source: &S) -> Position
         ensures { (v : ℕ) → state_of result v ≡ (S.task source.now).start v }
     {
-        // Not by `array::from_fn`: the proof of its closure came near a limit of the check.
-        let mut values = [0; 64];
-        for (variable, value) in values.iter_mut().enumerate() {
+        let mut position = Position { values: [0; 64] };
+        position.put_start(source);
+        position
+    }
+
+    // Puts the start of a task there. Not by `array::from_fn`: the proof of its closure came near a limit of the check.
+    pub fn put_start<S: TaskSource>(&mut self, source: &S)
+        ensures { (v : ℕ) → state_of self.new v ≡ (S.task source.now).start v }
+    {
+        for (variable, value) in self.values.iter_mut().enumerate() {
             *value = source.start(variable);
         }
-        Position { values }
     }
 
     // The value of a variable, 0 past the last one.

@@ -24,6 +24,16 @@ impl Sitting {
         }
     }
 
+    // Puts the sitting back at the start of a task; part by part, since a whole one would be made and copied.
+    pub fn restart<S: TaskSource>(&mut self, source: &S)
+        ensures { SitsAfter (S.task source.now) [] self.new }
+    {
+        self.position.put_start(source);
+        self.visited = FactSet::empty();
+        self.position.mark_facts(source, &mut self.visited);
+        self.steps = 0;
+    }
+
     // Takes an action; the steps are counted up to 65535.
     pub fn step<S: TaskSource>(&mut self, source: &S, action: usize)
         ensures position { (v : ℕ) → state_of self.new.position v ≡ after (S.task source.now) (state_of self.old.position) action v }

@@ -6,7 +6,6 @@ ghost use Rattle.rules.specs.declared.calls.Call.TheVariants.{Begin, Step};
 ghost use Rattle.std.specs.Prelude.{◌≡◌};
 
 use super::Marker;
-use judging::sitting::Sitting;
 use rules::calls::Refusal;
 use task::task_source::TaskSource;
 
@@ -18,7 +17,7 @@ impl<S: TaskSource> Marker<S> {
         ensures turn { Answered (S.task self.old.source) self.old Begin (acted result) self.new }
     {
         self.check_goal()?;
-        self.sitting = Sitting::start_of(&self.source);
+        self.sitting.restart(&self.source);
         Ok(())
     }
 

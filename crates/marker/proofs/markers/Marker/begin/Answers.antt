@@ -10,4 +10,4 @@ returns-in_err-check_goal-clause-turn g c m s =
     rw (p.1, p.2) (missed_turn s _ _ c.in_err-check_goal.ensures)
 
 pub returns : goal.returns
-returns g c = record { source = refl; tally = refl; turn = λ m s. begin_turn s _ c.in_ok-check_goal.ensures c.start_of-self.ensures refl refl refl refl }
+returns g c = record { source = refl; tally = refl; turn = λ m s. begin_turn s _ c.in_ok-check_goal.ensures c.restart.ensures refl refl refl refl }
