@@ -21,7 +21,7 @@ pub struct Cursor {
     place: usize,
 }
 
-// The place of the key's first ordered pair from a place on. It goes row by row: in a row the earlier fact is looked up once.
+// The place of the key's first ordered pair from a place on. It goes row by row, one earlier fact at a time.
 fn next_pair(key: &Key, from: usize) -> Option<usize>
     ensures within { (n : ℕ) → result ≡ Some n → (from ≤ n) × (n < 65536) }
     ensures first { (m : Machine) (n : ℕ) → Shows key.now m → result ≡ Some n → OrderedAt m n × ((k : ℕ) → from ≤ k → k < n → OrderedAt m k → ⊥) }
