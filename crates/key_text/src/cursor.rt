@@ -62,11 +62,13 @@ impl Cursor {
         let facts = count_facts(key.source());
         if let Some(fact) = (self.fact..facts).find(|number| key.holds(*number)) {
             self.fact = fact + 1;
-            return Some(Line::Fact(fact_line(key, &self.levels, fact)));
+            let line = fact_line(key, &self.levels, fact).unwrap();
+            return Some(Line::Fact(line));
         }
         self.fact = facts;
         let place = next_pair(key, self.place)?;
         self.place = place + 1;
-        Some(Line::Order(Pair::at(place).line(key)))
+        let order = Pair::at(place).line(key).unwrap();
+        Some(Line::Order(order))
     }
 }

@@ -1,10 +1,10 @@
 -- Lines from what the searches found.
-use Rattle.std.proofs.Common.{◌≡◌, ℕ, ◌+◌, ◌-◌, ◌*◌, ◌/◌, ◌%◌, ◌<◌, ◌≤◌, List, ◌++◌, length, drop, Bool, true, ◌||◌, ◌⊎◌, ⊎_elim, refl, false, Some, None, Option, IsSome, Decides, Ok, Err, Result, MatchResult, sym, ap, ◌∙◌, subst, arith, length-append}
-use Rattle.std.proofs.lemmas.Bool.{or_cases, or_left, or_right, false_from_ne_true, false≢true}
+use Rattle.std.proofs.Common.{◌≡◌, ℕ, ◌+◌, ◌-◌, ◌*◌, ◌/◌, ◌%◌, ◌<◌, ◌≤◌, List, ◌++◌, length, drop, Bool, true, ◌||◌, ◌⊎◌, ⊎_elim, refl, false, Some, None, Option, IsSome, Decides, Ok, Err, Result, MatchOption, MatchResult, inl, inr, sym, ap, ◌∙◌, subst, arith, length-append}
+use Rattle.std.proofs.lemmas.Bool.{cases_lt, or_cases, or_left, or_right, false_from_ne_true, false≢true}
 use Rattle.task.specs.Task.{Task, Fact as TaskFact, Lawful, Numbered, facts}
 use Rattle.task.specs.Facts.{Exactly}
 use Rattle.task.specs.Single.{is_lawful}
-use Rattle.task.proofs.Numbers.{numbered}
+use Rattle.task.proofs.Numbers.{numbered, number_in}
 use Rattle.task.proofs.Options.{no_some}
 use Rattle.reach.specs.Relaxed.{GoalInReach}
 use Rattle.rules.specs.declared.calls.Kind.TheVariants.{Greedy, Necessary}
@@ -25,10 +25,26 @@ use Rattle.listing.specs.Listing.{HeldAt, OrderedAt, InAnyKind, shown_kind, Fact
 pub key_lawful : (k : Key) → Lawful (task_of k)
 key_lawful k = is_lawful (task_of k) k.marker.source.lawful
 
--- a number below the facts has a fact
-pub has_fact : (t : Task) (n : ℕ) (r : Option TaskFact) → n < facts t → Exactly (Numbered t n) r → IsSome r
-has_fact t n (Some f) below exact = refl
-has_fact t n None below exact = let (f, is) = numbered t n below in absurd (no_some f (exact.found f is))
+-- what is answered where there is no reason not to
+pub is_there : {A : Type 0} (P : Type 0) (Q : A → Type 0) (r : Option A) → (P → ⊥) → MatchOption r P Q → IsSome r
+is_there P Q (Some x) not said = refl
+is_there P Q None not said = absurd (not said)
+
+-- what is said of an answer
+pub said_of : {A : Type 0} (P : Type 0) (Q : A → Type 0) (r : Option A) (x : A) → r ≡ Some x → MatchOption r P Q → Q x
+said_of {A} P Q r x e said = subst (λ (o : Option A). MatchOption o P Q) e said
+
+-- a number that no fact has is none of the facts', by a task's other name
+pub no_fact : (t u : Task) (n : ℕ) (r : Option TaskFact) → t ≡ u → Exactly (Numbered t n) r → r ≡ None → facts u ≤ n
+no_fact t u n r e exact none = subst (λ (v : Task). facts v ≤ n) e (go (cases_lt n (facts t)))
+  where
+    go : (n < facts t) ⊎ (facts t ≤ n) → facts t ≤ n
+    go (inl low) = let (f, is) = numbered t n low in absurd (no_some f (sym none ∙ exact.found f is))
+    go (inr high) = high
+
+-- a fact's number is one of the facts'
+pub below_facts : (t : Task) (n : ℕ) (f : TaskFact) → Numbered t n f → n < facts t
+below_facts t n f d = omega (arith, d.is, number_in t.size f.variable t.vars f.value d.in_vars d.in_size)
 
 -- the fact of a number, by a task's other name
 pub fact_of : (t u : Task) (n : ℕ) (r : Option TaskFact) (f : TaskFact) → t ≡ u → Exactly (Numbered t n) r → r ≡ Some f → Numbered u n f

@@ -1,5 +1,5 @@
 // The line of a fact.
-ghost use Rattle.std.specs.Prelude.{◌≡◌, ◌<◌};
+ghost use Rattle.std.specs.Prelude.{◌≡◌, ◌<◌, ◌≤◌, MatchOption};
 ghost use Rattle.key.specs.Keys.{task_of};
 ghost use Rattle.listing.specs.Listing.{FactShown};
 ghost use Rattle.reach.specs.Built.{LevelsBuilt};
@@ -10,17 +10,15 @@ use lines::line::FactLine;
 use reach::tables::LevelTable;
 use task::facts::fact_at;
 
-// The line of the fact with a number, by a table of the levels.
-pub fn fact_line(key: &Key, levels: &LevelTable, number: usize) -> FactLine
-    requires { number < facts (task_of key.now) }
-    ensures number { result.number ≡ number }
-    ensures shown { LevelsBuilt (task_of key.now) levels.now.table → FactShown (task_of key.now) result }
+// The line of the fact with a number, by a table of the levels: `None` where no fact has the number.
+pub fn fact_line(key: &Key, levels: &LevelTable, number: usize) -> Option<FactLine>
+    ensures { MatchOption result (facts (task_of key.now) ≤ number) (λ x. (number < facts (task_of key.now)) × (x.number ≡ number) × (LevelsBuilt (task_of key.now) levels.now.table → FactShown (task_of key.now) x)) }
 {
-    let fact = fact_at(key.source(), number).unwrap();
-    FactLine {
+    let fact = fact_at(key.source(), number)?;
+    Some(FactLine {
         number: number as u16,
         variable: fact.variable as u16,
         value: fact.value as u16,
         level: levels.level(number),
-    }
+    })
 }

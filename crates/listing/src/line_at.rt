@@ -18,7 +18,8 @@ pub(crate) fn line_at(key: &Key, number: usize) -> Result<Line, usize>
     let source = key.source();
     let held = match find_passing(count_facts(source), number, |fact| key.holds(fact)) {
         Ok(fact) => {
-            return Ok(Line::Fact(fact_line(key, &LevelTable::of(source), fact)));
+            let line = fact_line(key, &LevelTable::of(source), fact).unwrap();
+            return Ok(Line::Fact(line));
         }
         Err(held) => held,
     };
@@ -27,7 +28,10 @@ pub(crate) fn line_at(key: &Key, number: usize) -> Result<Line, usize>
         number - held,
         |place| Pair::at(place).is_ordered(key),
     ) {
-        Ok(place) => Ok(Line::Order(Pair::at(place).line(key))),
+        Ok(place) => {
+            let order = Pair::at(place).line(key).unwrap();
+            Ok(Line::Order(order))
+        }
         Err(ordered) => Err(held + ordered),
     }
 }

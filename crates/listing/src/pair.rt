@@ -1,5 +1,5 @@
 // Ordered pairs of facts.
-ghost use Rattle.std.specs.Prelude.{◌≡◌, ◌/◌, ◌%◌, ◌<◌, Decides};
+ghost use Rattle.std.specs.Prelude.{◌≡◌, ◌/◌, ◌%◌, ◌<◌, ◌≤◌, ◌⊎◌, Decides, MatchOption};
 ghost use Rattle.key.specs.Keys.{Shows};
 ghost use Rattle.listing.specs.Listing.{InAnyKind, shown_kind};
 ghost use Rattle.rules.specs.Machine.{Machine};
@@ -38,23 +38,22 @@ impl Pair {
             | key.is_ordered(Kind::Necessary, self.earlier, self.later)
     }
 
-    // The line of the pair, necessary where the key has it so.
-    pub fn line(self, key: &Key) -> OrderLine
-        requires earlier { self.earlier < 256 }
-        requires later { self.later < 256 }
-        ensures earlier { result.earlier ≡ self.earlier }
-        ensures later { result.later ≡ self.later }
-        ensures kind { (m : Machine) → Shows key.now m → result.kind ≡ shown_kind m self.earlier self.later }
+    // The line of the pair, necessary where the key has it so: `None` where a number is past those that facts may have.
+    pub fn line(self, key: &Key) -> Option<OrderLine>
+        ensures { MatchOption result ((256 ≤ self.earlier) ⊎ (256 ≤ self.later)) (λ x. (x.earlier ≡ self.earlier) × (x.later ≡ self.later) × ((m : Machine) → Shows key.now m → x.kind ≡ shown_kind m self.earlier self.later) × (self.earlier < 256) × (self.later < 256)) }
     {
+        if self.earlier >= 256 || self.later >= 256 {
+            return None;
+        }
         let kind = if key.is_ordered(Kind::Necessary, self.earlier, self.later) {
             Kind::Necessary
         } else {
             Kind::Greedy
         };
-        OrderLine {
+        Some(OrderLine {
             kind,
             earlier: self.earlier as u16,
             later: self.later as u16,
-        }
+        })
     }
 }
