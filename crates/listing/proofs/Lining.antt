@@ -78,24 +78,31 @@ line_of_pair {t} {m} x k i number low e l kind (here, count) held few =
 or_of : (x y : Bool) → (x ≡ true) ⊎ (y ≡ true) → (x || y) ≡ true
 or_of x y = ⊎_elim (or_left x y) (or_right x y)
 
--- whether the pair at a place is ordered, in any kind
-abbrev pub any_kind : Machine → ℕ → Bool
-any_kind m k = m.ordered Greedy (k / 256) (k % 256) || m.ordered Necessary (k / 256) (k % 256)
+-- whether two facts are ordered, in any kind
+abbrev pub any_of : Machine → ℕ → ℕ → Bool
+any_of m e l = m.ordered Greedy e l || m.ordered Necessary e l
 
 -- what says whether a pair is ordered says that
-pub says_any : (m : Machine) (b : Bool) (k e l : ℕ) → e ≡ k / 256 → l ≡ k % 256 → Decides b (InAnyKind m e l) → b ≡ any_kind m k
-says_any m b k e l he hl d = go b (subst (λ (i : ℕ). Decides b (InAnyKind m i (k % 256))) he (subst (λ (j : ℕ). Decides b (InAnyKind m e j)) hl d))
+pub says_of : (m : Machine) (b : Bool) (e l e' l' : ℕ) → e' ≡ e → l' ≡ l → Decides b (InAnyKind m e' l') → b ≡ any_of m e l
+says_of m b e l e' l' he hl d = go b (subst (λ (i : ℕ). Decides b (InAnyKind m i l)) he (subst (λ (j : ℕ). Decides b (InAnyKind m e' j)) hl d))
   where
-    go : (b : Bool) → Decides b (OrderedAt m k) → b ≡ any_kind m k
+    go : (b : Bool) → Decides b (InAnyKind m e l) → b ≡ any_of m e l
     go true d = sym (or_of _ _ (d.0 refl))
-    go false d = sym (false_from_ne_true _ (λ e. false≢true (d.1 (or_cases _ _ e))))
+    go false d = sym (false_from_ne_true _ (λ x. false≢true (d.1 (or_cases _ _ x))))
 
 -- so a pair is ordered, or not
-pub is_any : (m : Machine) (k : ℕ) → true ≡ any_kind m k → OrderedAt m k
-is_any m k e = or_cases _ _ (sym e)
+pub is_of : (m : Machine) (e l : ℕ) → true ≡ any_of m e l → InAnyKind m e l
+is_of m e l x = or_cases _ _ (sym x)
 
-pub not_any : (m : Machine) (k : ℕ) → false ≡ any_kind m k → OrderedAt m k → ⊥
-not_any m k e o = false≢true (e ∙ or_of _ _ o)
+pub not_of : (m : Machine) (e l : ℕ) → false ≡ any_of m e l → InAnyKind m e l → ⊥
+not_of m e l x o = false≢true (x ∙ or_of _ _ o)
+
+-- the same of the pair at a place
+abbrev pub any_kind : Machine → ℕ → Bool
+any_kind m k = any_of m (k / 256) (k % 256)
+
+pub says_any : (m : Machine) (b : Bool) (k e l : ℕ) → e ≡ k / 256 → l ≡ k % 256 → Decides b (InAnyKind m e l) → b ≡ any_kind m k
+says_any m b k e l he hl d = says_of m b (k / 256) (k % 256) e l he hl d
 
 -- a search by that finds ordered pairs
 pub pairs_sought : (m : Machine) (index : ℕ) (r : Result ℕ ℕ) → Sought (λ k. any_kind m k ≡ true) 65536 index r → Sought (OrderedAt m) 65536 index r

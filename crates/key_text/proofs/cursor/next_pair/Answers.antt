@@ -3,7 +3,8 @@ use Rattle.std.proofs.lemmas.Iterator.{first_from_Range}
 use Rattle.std.proofs.lemmas.Bool.{cases_lt}
 use Rattle.task.proofs.Options.{some_same}
 use Rattle.listing.specs.Listing.{InAnyKind, OrderedAt}
-use Rattle.key_text.proofs.Rows.{any_of, says_of, is_of, not_of, at_place, in_row}
+use Rattle.listing.proofs.Lining.{any_of, says_of, is_of, not_of}
+use Rattle.key_text.proofs.Rows.{at_place, in_row}
 use Rattle.key_text.proofs.cursor.next_pair.Goals as goal
 
 pub loop-earlier-init : goal.loop-earlier-init

@@ -4,7 +4,7 @@ use Rattle.std.proofs.lemmas.Bool.{both_ways}
 use Rattle.task.specs.Task.{facts}
 use Rattle.key.specs.Keys.{task_of}
 use Rattle.listing.specs.Listing.{HeldAt, OrderedAt, shown_kind}
-use Rattle.listing.proofs.Lining.{is_there, said_of, says_any, any_kind, is_any, not_any}
+use Rattle.listing.proofs.Lining.{is_there, said_of}
 use Rattle.key_text.proofs.Standing.{First, NoneIn, past_fact, no_fact, past_pair, past_all}
 use Rattle.key_text.proofs.cursor.Cursor.next_line.Goals as goal
 
